@@ -1,0 +1,4 @@
+pub mod Loops
+pub mod Membership
+pub mod Bounded
+pub mod Shown

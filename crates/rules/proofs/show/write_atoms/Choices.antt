@@ -1,0 +1,13 @@
+use mathlib.Core.List.{map}
+use lib.Chars.{codes}
+use lib.ListN.{take}
+use Rattle.std.specs.Written.{Plain, Put}
+use Rattle.rules.specs.Logic.{formulaOf}
+use Rattle.rules.specs.Bounds.{some, has?}
+use Rattle.rules.specs.Text.{separated, atomBy}
+use Rattle.rules.proofs.show.write_atoms.Given as given
+
+abbrev pub Inv-loop-i : given.InvT-loop-i
+Inv-loop-i g l =
+    Plain (l .entry .f) → Put ((g .W·Write) .took) (l .entry .f)
+    (separated (codes ", ") (map (atomBy (λ v. some (has? v) (map formulaOf (l .body)))) (take (l .i) (l .atoms)))) (l .f)

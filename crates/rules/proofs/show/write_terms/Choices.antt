@@ -1,0 +1,14 @@
+use mathlib.Core.Bool.{_||_}
+use mathlib.Core.List.{map}
+use lib.Chars.{codes}
+use lib.ListN.{take}
+use Rattle.std.specs.Written.{Plain, Put}
+use Rattle.rules.specs.Logic.{formulaOf}
+use Rattle.rules.specs.Bounds.{some, has?}
+use Rattle.rules.specs.Text.{separated, termBy}
+use Rattle.rules.proofs.show.write_terms.Given as given
+
+abbrev pub Inv-loop-i : given.InvT-loop-i
+Inv-loop-i g l =
+    Plain (l .entry .f) → Put ((g .W·Write) .took) (l .entry .f)
+    (separated (codes ",") (map (termBy (λ v. l .all || some (has? v) (map formulaOf (l .body)))) (take (l .i) (l .terms)))) (l .f)

@@ -1,0 +1,4 @@
+pub mod Logic
+pub mod Bounds
+pub mod Rules
+pub mod Text

@@ -1,0 +1,15 @@
+pub mod Steps
+pub mod Runs
+pub mod Terms
+pub mod Atoms
+pub mod RuleBodies
+pub mod Counts
+pub mod RuleVolumes
+pub mod FactVolumes
+pub mod Loops
+pub mod AtomSays
+pub mod Passing
+pub mod RuleReading
+pub mod Checking
+pub mod Together
+pub mod Had

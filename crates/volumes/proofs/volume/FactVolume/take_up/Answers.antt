@@ -1,0 +1,5 @@
+use Rattle.volumes.proofs.Checking.{facts-taken-up}
+use Rattle.volumes.proofs.volume.FactVolume.take_up.Needs as need
+
+pub returns : need.returns
+returns c = facts-taken-up (c .args .bytes .now)

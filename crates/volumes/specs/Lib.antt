@@ -1,0 +1,9 @@
+pub mod Answers
+pub mod Faults
+pub mod Handing
+pub mod Items
+pub mod Layout
+pub mod Parts
+pub mod Reading
+pub mod Sequence
+pub mod Volumes
