@@ -1,8 +1,8 @@
--- What the reader of a rule's atoms hands out.
+-- An atom that is read in a rule is one that stands there and that a rule may have.
 use mathlib.Core.Path.{_≡_, refl, sym, ap, subst, _∙_}
 use mathlib.Core.List.{List, [], _∷_}
 use mathlib.Core.Logic.{_⊎_, inl, inr}
-use Prim.Native.Nat.{ℕ, _+_, _*_, _≤_, _<_}
+use Prim.Native.Nat.{ℕ, _+_, _-_, _*_, _≤_, _<_}
 use native.Mathlib.Omega.{arith}
 use lib.ListN.{length, take, drop}
 use Rattle.std.specs.declared.result.Result.{Result}
@@ -16,9 +16,12 @@ use Rattle.volumes.specs.declared.VolumeKind.{VolumeKind}
 use Rattle.volumes.specs.declared.VolumeKind.the-variants.{Rules, Facts}
 use Rattle.volumes.specs.declared.faults.AtomFault.{AtomFault}
 use Rattle.volumes.specs.declared.faults.TermFault.{TermFault}
+use Rattle.volumes.specs.declared.cursor.RuleAtoms.{RuleAtoms}
+use Rattle.volumes.specs.declared.cursor.Placed.{Placed}
 use Rattle.volumes.specs.Sequence.{Stand}
 use Rattle.volumes.specs.Layout.{TermAt, TermSays, AtomSays, AtomStands, span}
 use Rattle.volumes.specs.Reading.{readAtom}
+use Rattle.volumes.specs.Items.{SameRule, Handed}
 use Rattle.volumes.proofs.Atoms.{atom-right}
 
 -- what holds of each thing that may stand holds of all that do
@@ -46,3 +49,17 @@ module _ (bs : List ℕ) (e p : ℕ) where
 
   pub atom-allowed : (a : Atom) → readAtom Rules bs e p ≡ Ok (formulaOf a) → 1 ≤ a .arity → a .arity ≤ 4 → RuleAtom a
   atom-allowed a is some few = record { some = some; few = few; plain = atom-plain (formulaOf a) (atom-says _ is) }
+
+-- the reader has moved from s to t past the atom that it read
+pub handed-here : (s t : RuleAtoms) (x : Placed) → readAtom Rules (s .bytes .now) (s .end) (s .place) ≡ Ok (formulaOf (x .atom)) → (1 ≤ x .atom .arity) × (x .atom .arity ≤ 4) × (length (formulaOf (x .atom) .terms) ≡ x .atom .arity) → x .place ≡ s .place → t .place ≡ s .place + 3 + 3 * x .atom .arity → x .bytes .now ≡ take (t .place - s .place) (drop (s .place) (s .bytes .now)) → SameRule s t → Handed s x t
+handed-here s t x is formed place next part same =
+    let n = formed .2 in
+    let long : t .place - s .place ≡ span (formulaOf (x .atom)) = omega arith in
+    record {
+      stands = atom-says (s .bytes .now) (s .end) (s .place) (Ok (formulaOf (x .atom))) is;
+      allowed = atom-allowed (s .bytes .now) (s .end) (s .place) (x .atom) is (formed .0) (formed .1);
+      bytes = part ∙ ap (λ k. take k (drop (s .place) (s .bytes .now))) long;
+      place = place;
+      rule = same;
+      past = omega arith;
+    }

@@ -1,4 +1,4 @@
--- One turn of each loop over a volume, and each way out of the check.
+-- One turn of each loop over a volume, and what the check then answers.
 use mathlib.Core.Path.{_≡_, refl, sym, ap, subst, _∙_}
 use mathlib.Core.Bool.{Bool, true, false, cond}
 use mathlib.Core.List.{List, [], _∷_}
@@ -6,18 +6,17 @@ use Prim.Native.Nat.{ℕ, zero, suc, _+_, _-_, _*_, _≤_, _<_}
 use native.Mathlib.Omega.{arith}
 use lib.Dec.{eqb, ltb}
 use lib.ListN.{length}
-use Rattle.std.proofs.shelf.Tests.{lt-ltb, eq-eqb, ne-eqb}
+use Rattle.std.proofs.shelf.Tests.{lt-ltb, eq-eqb}
 use Rattle.std.specs.declared.result.Result.{Result}
 use Rattle.std.specs.declared.result.Result.the-variants.{Ok, Err}
 use Rattle.rules.specs.Logic.{Formula, Implication}
 use Rattle.volumes.specs.declared.VolumeKind.the-variants.{Rules, Facts}
-use Rattle.volumes.specs.declared.faults.AtomFault.{AtomFault}
 use Rattle.volumes.specs.declared.faults.EntryFault.{EntryFault}
-use Rattle.volumes.specs.declared.faults.VolumeFault.the-variants.{NotRising, Ends, Misplaced}
+use Rattle.volumes.specs.declared.faults.VolumeFault.the-variants.{NotRising, Ends}
 use Rattle.volumes.specs.declared.faults.Fault.{Fault}
-use Rattle.volumes.specs.Faults.{fault, inVolume, entryFault}
-use Rattle.volumes.specs.Layout.{number, extent, rulesEnd, factPlace, count, span, Numbered, RuleVolumeSays, FactVolumeSays}
-use Rattle.volumes.specs.Reading.{andThen, above, readAtom, readRun, readRule, readCount, readRising, readRuleEntry, readRuleEntries, readRules, readFactEntry, readFactEntries, readFacts}
+use Rattle.volumes.specs.Faults.{fault, inVolume}
+use Rattle.volumes.specs.Layout.{number, extent, rulesEnd, count, span, Numbered, RuleVolumeSays, FactVolumeSays}
+use Rattle.volumes.specs.Reading.{andThen, above, readRun, readRule, readCount, readRising, readRuleEntry, readRuleEntries, readRules, readFactEntry, readFactEntries, readFacts}
 use Rattle.volumes.specs.Answers.{TheAnswer, counted, taken, Checked, TakenUp}
 use Rattle.volumes.proofs.RuleVolumes.{rules-right, rules-only}
 use Rattle.volumes.proofs.FactVolumes.{facts-right, facts-only}
@@ -76,72 +75,20 @@ module _ (bs : List ℕ) where
   pub fact-entries : (n : ℕ) (r : Result (List Formula × ℕ) Fault) → n ≡ count bs → readRun (readFactEntry bs) (λ _ p a. p + span a) 0 (3 + 2 * n) n ≡ r → readFactEntries bs ≡ r
   fact-entries n r e h = ap (λ k. readRun (readFactEntry bs) (λ _ p a. p + span a) 0 (3 + 2 * k) k) (sym e) ∙ h
 
-  -- the ways out of the check of rules
-  pub rules-no-count : (f : Fault) → readCount Rules bs ≡ Err f → counted (readRules bs) ≡ Err f
-  rules-no-count f e =
-      ap (λ r. counted (andThen r (λ n. andThen (readRising bs 0 (n - 1)) (λ _. cond (eqb (rulesEnd bs n) (length bs)) (andThen (readRuleEntries bs) (λ xs. Ok (xs .0))) (Err (fault Ends 0 (rulesEnd bs n))))))) e
+  -- the check goes through
+  pub rules-all : (n : ℕ) → readCount Rules bs ≡ Ok n → readRising bs 0 (n - 1) ≡ Ok tt → rulesEnd bs n ≡ length bs → (xs : List Numbered) (q : ℕ) → length xs ≡ n → readRuleEntries bs ≡ Ok (xs, q) → counted (readRules bs) ≡ Ok n
+  rules-all n some rise end xs q l e =
+      ap counted
+      (ap (λ r. andThen r (λ n. andThen (readRising bs 0 (n - 1)) (λ _. cond (eqb (rulesEnd bs n) (length bs)) (andThen (readRuleEntries bs) (λ xs. Ok (xs .0))) (Err (fault Ends 0 (rulesEnd bs n)))))) some
+      ∙ ap (λ r. andThen r (λ _. cond (eqb (rulesEnd bs n) (length bs)) (andThen (readRuleEntries bs) (λ xs. Ok (xs .0))) (Err (fault Ends 0 (rulesEnd bs n))))) rise
+      ∙ ap (λ b. cond b (andThen (readRuleEntries bs) (λ xs. Ok (xs .0))) (Err (fault Ends 0 (rulesEnd bs n)))) (eq-eqb (rulesEnd bs n) (length bs) end)
+      ∙ ap (λ r. andThen r (λ xs. Ok (xs .0))) e)
+      ∙ ap (λ k. Ok k) l
 
-  module _ (n : ℕ) (some : readCount Rules bs ≡ Ok n) where
-    after-count : readRules bs ≡ andThen (readRising bs 0 (n - 1)) (λ _. cond (eqb (rulesEnd bs n) (length bs)) (andThen (readRuleEntries bs) (λ xs. Ok (xs .0))) (Err (fault Ends 0 (rulesEnd bs n))))
-    after-count =
-        ap (λ r. andThen r (λ n. andThen (readRising bs 0 (n - 1)) (λ _. cond (eqb (rulesEnd bs n) (length bs)) (andThen (readRuleEntries bs) (λ xs. Ok (xs .0))) (Err (fault Ends 0 (rulesEnd bs n)))))) some
-
-    pub rules-not-rising : (f : Fault) → readRising bs 0 (n - 1) ≡ Err f → counted (readRules bs) ≡ Err f
-    rules-not-rising f e =
-        ap counted after-count
-        ∙ ap (λ r. counted (andThen r (λ _. cond (eqb (rulesEnd bs n) (length bs)) (andThen (readRuleEntries bs) (λ xs. Ok (xs .0))) (Err (fault Ends 0 (rulesEnd bs n)))))) e
-
-    module _ (rise : readRising bs 0 (n - 1) ≡ Ok tt) where
-      after-rising : readRules bs ≡ cond (eqb (rulesEnd bs n) (length bs)) (andThen (readRuleEntries bs) (λ xs. Ok (xs .0))) (Err (fault Ends 0 (rulesEnd bs n)))
-      after-rising =
-          after-count ∙ ap (λ r. andThen r (λ _. cond (eqb (rulesEnd bs n) (length bs)) (andThen (readRuleEntries bs) (λ xs. Ok (xs .0))) (Err (fault Ends 0 (rulesEnd bs n))))) rise
-
-      pub rules-ends : (rulesEnd bs n ≡ length bs → ⊥) → counted (readRules bs) ≡ Err (fault Ends 0 (rulesEnd bs n))
-      rules-ends ne = ap counted after-rising ∙ ap (λ b. counted (cond b (andThen (readRuleEntries bs) (λ xs. Ok (xs .0))) (Err (fault Ends 0 (rulesEnd bs n))))) (ne-eqb (rulesEnd bs n) (length bs) ne)
-
-      module _ (end : rulesEnd bs n ≡ length bs) where
-        after-ends : readRules bs ≡ andThen (readRuleEntries bs) (λ xs. Ok (xs .0))
-        after-ends = after-rising ∙ ap (λ b. cond b (andThen (readRuleEntries bs) (λ xs. Ok (xs .0))) (Err (fault Ends 0 (rulesEnd bs n)))) (eq-eqb (rulesEnd bs n) (length bs) end)
-
-        pub rules-wrong : (f : Fault) → readRuleEntries bs ≡ Err f → counted (readRules bs) ≡ Err f
-        rules-wrong f e = ap counted (after-ends ∙ ap (λ r. andThen r (λ xs. Ok (xs .0))) e)
-
-        pub rules-all : (xs : List Numbered) (q : ℕ) → length xs ≡ n → readRuleEntries bs ≡ Ok (xs, q) → counted (readRules bs) ≡ Ok n
-        rules-all xs q l e = ap counted (after-ends ∙ ap (λ r. andThen r (λ xs. Ok (xs .0))) e) ∙ ap (λ k. Ok k) l
-
-  -- a fact's entry
-  pub fact-misplaced : (i p : ℕ) → (factPlace bs i ≡ p → ⊥) → readFactEntry bs i p ≡ Err (fault Misplaced i (3 + 2 * i))
-  fact-misplaced i p ne =
-      ap (λ b. cond b (above (λ a. inVolume i (entryFault a)) (readAtom Facts bs (length bs) p)) (Err (fault Misplaced i (3 + 2 * i)))) (ne-eqb (factPlace bs i) p ne)
-
-  module _ (i p : ℕ) (at : factPlace bs i ≡ p) where
-    in-place : readFactEntry bs i p ≡ above (λ a. inVolume i (entryFault a)) (readAtom Facts bs (length bs) p)
-    in-place = ap (λ b. cond b (above (λ a. inVolume i (entryFault a)) (readAtom Facts bs (length bs) p)) (Err (fault Misplaced i (3 + 2 * i)))) (eq-eqb (factPlace bs i) p at)
-
-    pub fact-entry-ok : (a : Formula) → readAtom Facts bs (length bs) p ≡ Ok a → readFactEntry bs i p ≡ Ok a
-    fact-entry-ok a e = in-place ∙ ap (above (λ a. inVolume i (entryFault a))) e
-
-    pub fact-entry-err : (f : AtomFault) → readAtom Facts bs (length bs) p ≡ Err f → readFactEntry bs i p ≡ Err (inVolume i (entryFault f))
-    fact-entry-err f e = in-place ∙ ap (above (λ a. inVolume i (entryFault a))) e
-
-  -- the ways out of the check of facts
-  pub facts-no-count : (f : Fault) → readCount Facts bs ≡ Err f → counted (readFacts bs) ≡ Err f
-  facts-no-count f e =
-      ap (λ r. counted (andThen r (λ _. andThen (readFactEntries bs) (λ xs. cond (eqb (xs .1) (length bs)) (Ok (xs .0)) (Err (fault Ends 0 (xs .1))))))) e
-
-  module _ (n : ℕ) (some : readCount Facts bs ≡ Ok n) where
-    past-count : readFacts bs ≡ andThen (readFactEntries bs) (λ xs. cond (eqb (xs .1) (length bs)) (Ok (xs .0)) (Err (fault Ends 0 (xs .1))))
-    past-count = ap (λ r. andThen r (λ _. andThen (readFactEntries bs) (λ xs. cond (eqb (xs .1) (length bs)) (Ok (xs .0)) (Err (fault Ends 0 (xs .1)))))) some
-
-    pub facts-wrong : (f : Fault) → readFactEntries bs ≡ Err f → counted (readFacts bs) ≡ Err f
-    facts-wrong f e = ap counted (past-count ∙ ap (λ r. andThen r (λ xs. cond (eqb (xs .1) (length bs)) (Ok (xs .0)) (Err (fault Ends 0 (xs .1))))) e)
-
-    module _ (xs : List Formula) (q : ℕ) (read : readFactEntries bs ≡ Ok (xs, q)) where
-      past-entries : readFacts bs ≡ cond (eqb q (length bs)) (Ok xs) (Err (fault Ends 0 q))
-      past-entries = past-count ∙ ap (λ r. andThen r (λ xs. cond (eqb (xs .1) (length bs)) (Ok (xs .0)) (Err (fault Ends 0 (xs .1))))) read
-
-      pub facts-ends : (q ≡ length bs → ⊥) → counted (readFacts bs) ≡ Err (fault Ends 0 q)
-      facts-ends ne = ap counted (past-entries ∙ ap (λ b. cond b (Ok xs) (Err (fault Ends 0 q))) (ne-eqb q (length bs) ne))
-
-      pub facts-all : length xs ≡ n → q ≡ length bs → counted (readFacts bs) ≡ Ok n
-      facts-all l e = ap counted (past-entries ∙ ap (λ b. cond b (Ok xs) (Err (fault Ends 0 q))) (eq-eqb q (length bs) e)) ∙ ap (λ k. Ok k) l
+  pub facts-all : (n : ℕ) → readCount Facts bs ≡ Ok n → (xs : List Formula) (q : ℕ) → readFactEntries bs ≡ Ok (xs, q) → length xs ≡ n → q ≡ length bs → counted (readFacts bs) ≡ Ok n
+  facts-all n some xs q read l e =
+      ap counted
+      (ap (λ r. andThen r (λ _. andThen (readFactEntries bs) (λ xs. cond (eqb (xs .1) (length bs)) (Ok (xs .0)) (Err (fault Ends 0 (xs .1)))))) some
+      ∙ ap (λ r. andThen r (λ xs. cond (eqb (xs .1) (length bs)) (Ok (xs .0)) (Err (fault Ends 0 (xs .1))))) read
+      ∙ ap (λ b. cond b (Ok xs) (Err (fault Ends 0 q))) (eq-eqb q (length bs) e))
+      ∙ ap (λ k. Ok k) l

@@ -78,16 +78,16 @@ pub struct EntryAt {
 pub impl From<Cut> for TermFault as TermFaultFromCut {
     ghost converts = { λ c r. r ≡ Ended c };
 
-    fn from(c: Cut) -> TermFault {
-        TermFault::Ended(c)
+    fn from(cut: Cut) -> TermFault {
+        TermFault::Ended(cut)
     }
 }
 
 pub impl From<Cut> for AtomFault as AtomFaultFromCut {
     ghost converts = { λ c r. r ≡ CutShort c };
 
-    fn from(c: Cut) -> AtomFault {
-        AtomFault::CutShort(c)
+    fn from(cut: Cut) -> AtomFault {
+        AtomFault::CutShort(cut)
     }
 }
 

@@ -28,7 +28,7 @@ pub use volume::RuleVolume;
 
 /// What a volume holds.
 #[derive(Clone, Copy)]
-pub enum VolumeKind {
+pub(crate) enum VolumeKind {
     Rules,
     Facts,
 }

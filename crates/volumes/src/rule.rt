@@ -18,14 +18,15 @@ use rules::Atom;
 use rules::Rule;
 use rules::RuleParts;
 
-fn put_sixth(atoms: &mut [Atom; 6], n: u8, atom: Atom)
+/// Puts an atom behind the first `n`. (One function for each array, since its length has to be known.)
+fn put_in_body(atoms: &mut [Atom; 6], n: u8, atom: Atom)
     requires { ⌜ n < 6 ⌝ }
     ensures { λ _. ⌜ take (n + 1) (now (atoms .exit)) ≡ take n (now (atoms .entry)) ++ atom ∷ [] ⌝ }
 {
     atoms[n as usize] = atom;
 }
 
-fn put_fourth(atoms: &mut [Atom; 4], n: u8, atom: Atom)
+fn put_in_head(atoms: &mut [Atom; 4], n: u8, atom: Atom)
     requires { ⌜ n < 4 ⌝ }
     ensures { λ _. ⌜ take (n + 1) (now (atoms .exit)) ≡ take n (now (atoms .entry)) ++ atom ∷ [] ⌝ }
 {
@@ -37,7 +38,7 @@ fn push_body(parts: &mut RuleParts, atom: Atom)
     ensures { λ _. ⌜ BodyGrows (now (parts .entry)) atom (now (parts .exit)) ⌝ }
 {
     let n = parts.bodies;
-    put_sixth(&mut parts.body, n, atom);
+    put_in_body(&mut parts.body, n, atom);
     parts.bodies = n + 1;
 }
 
@@ -46,7 +47,7 @@ fn push_head(parts: &mut RuleParts, atom: Atom)
     ensures { λ _. ⌜ HeadGrows (now (parts .entry)) atom (now (parts .exit)) ⌝ }
 {
     let n = parts.heads;
-    put_fourth(&mut parts.head, n, atom);
+    put_in_head(&mut parts.head, n, atom);
     parts.heads = n + 1;
 }
 

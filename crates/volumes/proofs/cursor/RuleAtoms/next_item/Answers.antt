@@ -1,11 +1,8 @@
-use Prim.Native.Nat.{_+_, _-_, _*_, _<_}
-use mathlib.Core.Path.{_≡_, refl, sym, ap, _∙_}
+use Prim.Native.Nat.{_+_, _<_}
+use mathlib.Core.Path.{refl}
 use native.Mathlib.Omega.{arith}
-use lib.ListN.{length, take, drop}
 use Rattle.std.proofs.shelf.Results.{err-from-errBy}
-use Rattle.rules.specs.Logic.{formulaOf}
-use Rattle.volumes.specs.Layout.{span}
-use Rattle.volumes.proofs.AtomSays.{atom-says, atom-allowed}
+use Rattle.volumes.proofs.AtomSays.{atom-says, handed-here}
 use Rattle.volumes.proofs.cursor.RuleAtoms.next_item.Needs as need
 use Rattle.volumes.proofs.cursor.RuleAtoms.next_item.Needs.{else-self-eq0·by·then-self-eq0·else-self-eq0-2, else-self-eq0·by·else-self-eq0}
 
@@ -18,40 +15,13 @@ returns-in-Break-atom c =
 
 pub returns-then-self-gt0 : need.returns-then-self-gt0
 returns-then-self-gt0 c =
-    let s = c .args .self .now in
     let k = c .in-Continue-atom .ensures tt in
-    let f = k .formed in
-    let long : s .place + 3 + 3 * c .in-Continue-atom .atom .arity - s .place ≡ span (formulaOf (c .in-Continue-atom .atom)) = omega (arith, f .2) in (
-      record {
-        stands = atom-says (s .bytes .now) (s .end) (s .place) _ (k .value);
-        allowed = atom-allowed (s .bytes .now) (s .end) (s .place) _ (k .value) (f .0) (f .1);
-        bytes = ap (λ n. take n (drop (s .place) (s .bytes .now))) long;
-        place = refl;
-        rule = record { bytes = refl; end = refl };
-        past = omega (arith, f .2);
-      },
-      omega arith,
-      refl,
-    )
+    (handed-here (c .args .self .now) _ _ (k .value) (k .formed) refl refl refl (record { bytes = refl; end = refl }), omega arith, refl)
 
 pub returns-else-self-gt0 : need.returns-else-self-gt0
 returns-else-self-gt0 c =
-    let s = c .args .self .now in
     let k = c .in-Continue-atom .ensures tt in
-    let f = k .formed in
     let none = c .if-self-gt0 .left in
-    let some : 0 < s .heads =
+    let some : 0 < c .args .self .now .heads =
     elim (c .else-self-eq0 .came) [ else-self-eq0·by·then-self-eq0·else-self-eq0-2 w ↦ omega arith | else-self-eq0·by·else-self-eq0 w ↦ omega arith ] in
-    let long : s .place + 3 + 3 * c .in-Continue-atom .atom .arity - s .place ≡ span (formulaOf (c .in-Continue-atom .atom)) = omega (arith, f .2) in (
-      record {
-        stands = atom-says (s .bytes .now) (s .end) (s .place) _ (k .value);
-        allowed = atom-allowed (s .bytes .now) (s .end) (s .place) _ (k .value) (f .0) (f .1);
-        bytes = ap (λ n. take n (drop (s .place) (s .bytes .now))) long;
-        place = refl;
-        rule = record { bytes = refl; end = refl };
-        past = omega (arith, f .2);
-      },
-      omega arith,
-      omega arith,
-      omega arith,
-    )
+    (handed-here (c .args .self .now) _ _ (k .value) (k .formed) refl refl refl (record { bytes = refl; end = refl }), omega arith, omega arith, omega arith)
