@@ -95,7 +95,8 @@ pub fn check_facts(bytes: &[u8]) -> Result<usize, Fault>
 impl<'a> FactVolume<'a> {
     /// The volume in the bytes; one of no facts where they fail the check.
     pub fn take_up(bytes: &'a [u8]) -> FactVolume<'a>
-        ensures { λ v. ⌜ TakenUp (FactVolumeSays (now (bytes .entry))) (factsOf v) ⌝ }
+        ensures facts { λ v. ⌜ TakenUp (FactVolumeSays (now (bytes .entry))) (factsOf v) ⌝ }
+        ensures same { λ v. ⌜ v .bytes .now ≡ now (bytes .entry) ⌝ }
     {
         let count = match count_facts(bytes) {
             Ok(n) => n,

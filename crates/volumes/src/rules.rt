@@ -104,7 +104,8 @@ pub fn check_rules(bytes: &[u8]) -> Result<usize, Fault>
 impl<'a> RuleVolume<'a> {
     /// The volume in the bytes; one of no rules where they fail the check.
     pub fn take_up(bytes: &'a [u8]) -> RuleVolume<'a>
-        ensures { λ v. ⌜ TakenUp (RuleVolumeSays (now (bytes .entry))) (rulesOf v) ⌝ }
+        ensures rules { λ v. ⌜ TakenUp (RuleVolumeSays (now (bytes .entry))) (rulesOf v) ⌝ }
+        ensures same { λ v. ⌜ v .bytes .now ≡ now (bytes .entry) ⌝ }
     {
         let count = match count_rules(bytes) {
             Ok(n) => n,

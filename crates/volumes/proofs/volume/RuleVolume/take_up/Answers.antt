@@ -1,5 +1,6 @@
+use mathlib.Core.Path.{refl}
 use Rattle.volumes.proofs.Checking.{rules-taken-up}
 use Rattle.volumes.proofs.volume.RuleVolume.take_up.Needs as need
 
 pub returns : need.returns
-returns c = rules-taken-up (c .args .bytes .now)
+returns c = record { rules = rules-taken-up (c .args .bytes .now); same = refl }
