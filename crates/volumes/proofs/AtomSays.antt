@@ -14,8 +14,8 @@ use Rattle.rules.specs.Logic.{In, Each, Formula, formulaOf}
 use Rattle.rules.specs.Bounds.{Plain, RuleAtom}
 use Rattle.volumes.specs.declared.VolumeKind.{VolumeKind}
 use Rattle.volumes.specs.declared.VolumeKind.the-variants.{Rules, Facts}
-use Rattle.volumes.specs.declared.faults.AtomFault.{AtomFault}
-use Rattle.volumes.specs.declared.faults.TermFault.{TermFault}
+use Rattle.faults.specs.declared.AtomFault.{AtomFault}
+use Rattle.faults.specs.declared.TermFault.{TermFault}
 use Rattle.volumes.specs.declared.cursor.RuleAtoms.{RuleAtoms}
 use Rattle.volumes.specs.declared.cursor.Placed.{Placed}
 use Rattle.volumes.specs.Sequence.{Stand}

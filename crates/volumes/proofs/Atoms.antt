@@ -12,10 +12,10 @@ use Rattle.std.specs.declared.result.Result.the-variants.{Ok, Err}
 use Rattle.rules.specs.declared.Term.{Term}
 use Rattle.rules.specs.Logic.{Formula}
 use Rattle.volumes.specs.declared.VolumeKind.{VolumeKind}
-use Rattle.volumes.specs.declared.faults.TermFault.{TermFault}
-use Rattle.volumes.specs.declared.faults.AtomFault.{AtomFault}
-use Rattle.volumes.specs.declared.faults.AtomFault.the-variants.{CutShort, Arity}
-use Rattle.volumes.specs.Faults.{cutAt, atomFault}
+use Rattle.faults.specs.declared.TermFault.{TermFault}
+use Rattle.faults.specs.declared.AtomFault.{AtomFault}
+use Rattle.faults.specs.declared.AtomFault.the-variants.{CutShort, Arity}
+use Rattle.faults.specs.Faults.{cutAt, atomFault}
 use Rattle.volumes.specs.Sequence.{Run}
 use Rattle.volumes.specs.Layout.{at, pair, TermSays, TermsSay, ArityAllowed, AtomBegins, AtomWrong, AtomSays, AtomsSay, span}
 use Rattle.volumes.specs.Reading.{andThen, above, readTerm, readTerms, readAtom, readAtoms}

@@ -10,9 +10,9 @@ use Rattle.std.proofs.shelf.Tests.{cases-lt, cases-eq, le-leb, lt-leb, eq-eqb, 
 use Rattle.std.specs.declared.result.Result.{Result}
 use Rattle.std.specs.declared.result.Result.the-variants.{Ok, Err}
 use Rattle.volumes.specs.declared.VolumeKind.{VolumeKind}
-use Rattle.volumes.specs.declared.faults.VolumeFault.the-variants.{Short, FirstByte, TooMany, NotRising}
-use Rattle.volumes.specs.declared.faults.Fault.{Fault}
-use Rattle.volumes.specs.Faults.{fault}
+use Rattle.faults.specs.declared.VolumeFault.the-variants.{Short, FirstByte, TooMany, NotRising}
+use Rattle.faults.specs.declared.Fault.{Fault}
+use Rattle.faults.specs.Faults.{fault}
 use Rattle.volumes.specs.Layout.{at, firstByte, most, count, contentsEnd, ContentsWhole, ContentsWrong, number}
 use Rattle.volumes.specs.Reading.{readCount, readRising}
 use Rattle.volumes.proofs.Steps.{said}

@@ -12,10 +12,10 @@ use Rattle.std.specs.declared.result.Result.{Result}
 use Rattle.std.specs.declared.result.Result.the-variants.{Ok, Err}
 use Rattle.rules.specs.Logic.{Formula}
 use Rattle.volumes.specs.declared.VolumeKind.the-variants.{Facts}
-use Rattle.volumes.specs.declared.faults.AtomFault.{AtomFault}
-use Rattle.volumes.specs.declared.faults.VolumeFault.the-variants.{Ends, Misplaced}
-use Rattle.volumes.specs.declared.faults.Fault.{Fault}
-use Rattle.volumes.specs.Faults.{fault, inVolume, entryFault}
+use Rattle.faults.specs.declared.AtomFault.{AtomFault}
+use Rattle.faults.specs.declared.VolumeFault.the-variants.{Ends, Misplaced}
+use Rattle.faults.specs.declared.Fault.{Fault}
+use Rattle.faults.specs.Faults.{fault, inVolume, entryFault}
 use Rattle.volumes.specs.Layout.{AtomSays, span, count, contentsEnd, ContentsWhole, factPlace, FactWrong, FactEntry, FactsSay, EncodesFacts, FactVolumeWrong, FactVolumeSays}
 use Rattle.volumes.specs.Reading.{andThen, above, readAtom, readFactEntry, readFactEntries, readFacts}
 use Rattle.volumes.proofs.Steps.{said}

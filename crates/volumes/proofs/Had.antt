@@ -13,9 +13,9 @@ use Rattle.rules.specs.declared.Atom.{Atom}
 use Rattle.rules.specs.Logic.{Formula, Implication, formulaOf}
 use Rattle.rules.specs.Rules.{meaning}
 use Rattle.volumes.specs.declared.VolumeKind.the-variants.{Rules, Facts}
-use Rattle.volumes.specs.declared.faults.Fault.{Fault}
-use Rattle.volumes.specs.declared.faults.AtomFault.{AtomFault}
-use Rattle.volumes.specs.declared.faults.EntryFault.{EntryFault}
+use Rattle.faults.specs.declared.Fault.{Fault}
+use Rattle.faults.specs.declared.AtomFault.{AtomFault}
+use Rattle.faults.specs.declared.EntryFault.{EntryFault}
 use Rattle.volumes.specs.declared.volume.RuleVolume.{RuleVolume}
 use Rattle.volumes.specs.declared.volume.NumberedRule.{NumberedRule}
 use Rattle.volumes.specs.declared.cursor.RuleAtoms.{RuleAtoms}

@@ -14,7 +14,7 @@ use Rattle.rules.specs.declared.parts.RuleParts.{RuleParts}
 use Rattle.rules.specs.Logic.{In, Each, Formula, formulaOf}
 use Rattle.rules.specs.Bounds.{RuleAtom, bodyOf, headOf}
 use Rattle.volumes.specs.declared.VolumeKind.the-variants.{Rules}
-use Rattle.volumes.specs.declared.faults.AtomFault.{AtomFault}
+use Rattle.faults.specs.declared.AtomFault.{AtomFault}
 use Rattle.volumes.specs.declared.cursor.RuleAtoms.{RuleAtoms}
 use Rattle.volumes.specs.declared.cursor.Placed.{Placed}
 use Rattle.volumes.specs.Sequence.{Stand}

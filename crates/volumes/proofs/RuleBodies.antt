@@ -15,10 +15,10 @@ use Rattle.std.specs.declared.result.Result.the-variants.{Ok, Err}
 use Rattle.rules.specs.Logic.{Formula, Implication}
 use Rattle.rules.specs.Bounds.{existentials}
 use Rattle.volumes.specs.declared.VolumeKind.the-variants.{Rules}
-use Rattle.volumes.specs.declared.faults.AtomFault.{AtomFault}
-use Rattle.volumes.specs.declared.faults.EntryFault.{EntryFault}
-use Rattle.volumes.specs.declared.faults.EntryFault.the-variants.{EntryEnded, Count, Left, Existentials}
-use Rattle.volumes.specs.Faults.{cutAt, entryFault}
+use Rattle.faults.specs.declared.AtomFault.{AtomFault}
+use Rattle.faults.specs.declared.EntryFault.{EntryFault}
+use Rattle.faults.specs.declared.EntryFault.the-variants.{EntryEnded, Count, Left, Existentials}
+use Rattle.faults.specs.Faults.{cutAt, entryFault}
 use Rattle.volumes.specs.Layout.{at, BodyCount, HeadCount, RuleBegins, RuleAtomsSay, RuleFilled, RuleWrong, RuleSays}
 use Rattle.volumes.specs.Reading.{andThen, above, readAtoms, split, ruleOf, readRule}
 use Rattle.volumes.proofs.Steps.{said, both-ends}

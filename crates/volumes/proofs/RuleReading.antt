@@ -12,10 +12,10 @@ use Rattle.rules.specs.declared.parts.RuleParts.{RuleParts}
 use Rattle.rules.specs.Logic.{Formula, formulaOf, implicationOf}
 use Rattle.rules.specs.Bounds.{bodyOf, headOf, existentials, MakesRule}
 use Rattle.volumes.specs.declared.VolumeKind.the-variants.{Rules}
-use Rattle.volumes.specs.declared.faults.AtomFault.{AtomFault}
-use Rattle.volumes.specs.declared.faults.EntryFault.the-variants.{Left, Existentials}
+use Rattle.faults.specs.declared.AtomFault.{AtomFault}
+use Rattle.faults.specs.declared.EntryFault.the-variants.{Left, Existentials}
 use Rattle.volumes.specs.declared.cursor.RuleAtoms.{RuleAtoms}
-use Rattle.volumes.specs.Faults.{entryFault}
+use Rattle.faults.specs.Faults.{entryFault}
 use Rattle.volumes.specs.Sequence.{Stand, Stops}
 use Rattle.volumes.specs.Layout.{at, span, AtomSays, RuleBegins, RuleAtomsSay, RuleFilled, RuleStands, RuleWrong}
 use Rattle.volumes.specs.Reading.{readRule}

@@ -14,10 +14,10 @@ use Rattle.std.specs.declared.result.Result.{Result}
 use Rattle.std.specs.declared.result.Result.the-variants.{Ok, Err}
 use Rattle.rules.specs.Logic.{Implication}
 use Rattle.volumes.specs.declared.VolumeKind.the-variants.{Rules}
-use Rattle.volumes.specs.declared.faults.EntryFault.{EntryFault}
-use Rattle.volumes.specs.declared.faults.VolumeFault.the-variants.{Ends, NotRising}
-use Rattle.volumes.specs.declared.faults.Fault.{Fault}
-use Rattle.volumes.specs.Faults.{fault, inVolume}
+use Rattle.faults.specs.declared.EntryFault.{EntryFault}
+use Rattle.faults.specs.declared.VolumeFault.the-variants.{Ends, NotRising}
+use Rattle.faults.specs.declared.Fault.{Fault}
+use Rattle.faults.specs.Faults.{fault, inVolume}
 use Rattle.volumes.specs.Layout.{count, contentsEnd, ContentsWhole, Numbered, number, extent, Rising, rulesEnd, RuleSays, RuleEntry, RulesSay, RulesBegin, EncodesRules, RuleVolumeWrong, RuleVolumeSays}
 use Rattle.volumes.specs.Reading.{andThen, above, readRule, readRising, readRuleEntry, readRuleEntries, readRules}
 use Rattle.volumes.proofs.Steps.{said}

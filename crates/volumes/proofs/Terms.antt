@@ -12,9 +12,9 @@ use Rattle.rules.specs.declared.Term.{Term}
 use Rattle.rules.specs.declared.Term.the-variants.{Constant, Variable, Null}
 use Rattle.volumes.specs.declared.VolumeKind.{VolumeKind}
 use Rattle.volumes.specs.declared.VolumeKind.the-variants.{Rules, Facts}
-use Rattle.volumes.specs.declared.faults.TermFault.{TermFault}
-use Rattle.volumes.specs.declared.faults.TermFault.the-variants.{Ended, Kind, Number}
-use Rattle.volumes.specs.Faults.{cutAt}
+use Rattle.faults.specs.declared.TermFault.{TermFault}
+use Rattle.faults.specs.declared.TermFault.the-variants.{Ended, Kind, Number}
+use Rattle.faults.specs.Faults.{cutAt}
 use Rattle.volumes.specs.Layout.{at, pair, otherKind, TermWrong, TermSays}
 use Rattle.volumes.specs.Reading.{readTerm}
 use Rattle.volumes.proofs.Steps.{said}

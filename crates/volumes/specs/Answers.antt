@@ -5,7 +5,7 @@ use Prim.Native.Nat.{ℕ}
 use lib.ListN.{length}
 use Rattle.std.specs.declared.result.Result.{Result}
 use Rattle.std.specs.declared.result.Result.the-variants.{Ok, Err}
-use Rattle.volumes.specs.declared.faults.Fault.{Fault}
+use Rattle.faults.specs.declared.Fault.{Fault}
 
 -- a is right by the layout, and nothing else is
 pub record TheAnswer {A : Type 0} (Says : Result A Fault → Type 0) (a : Result A Fault) : Type 0 where

@@ -7,7 +7,7 @@ use lib.ListN.{length, take, drop}
 use Rattle.std.specs.declared.result.Result.the-variants.{Ok, Err}
 use Rattle.rules.specs.Logic.{Formula, Implication, formulaOf}
 use Rattle.volumes.specs.declared.VolumeKind.the-variants.{Rules}
-use Rattle.volumes.specs.declared.faults.AtomFault.{AtomFault}
+use Rattle.faults.specs.declared.AtomFault.{AtomFault}
 use Rattle.volumes.specs.declared.cursor.RuleAtoms.{RuleAtoms}
 use Rattle.volumes.specs.declared.cursor.Placed.{Placed}
 use Rattle.volumes.specs.declared.cursor.Item.{Item}

@@ -7,7 +7,7 @@ use Rattle.std.specs.declared.result.Result.the-variants.{Ok, Err}
 use Rattle.rules.specs.Logic.{formulaOf}
 use Rattle.rules.specs.Bounds.{RuleAtom}
 use Rattle.volumes.specs.declared.VolumeKind.the-variants.{Rules}
-use Rattle.volumes.specs.declared.faults.AtomFault.{AtomFault}
+use Rattle.faults.specs.declared.AtomFault.{AtomFault}
 use Rattle.volumes.specs.declared.cursor.RuleAtoms.{RuleAtoms}
 use Rattle.volumes.specs.declared.cursor.Placed.{Placed}
 use Rattle.volumes.specs.declared.cursor.Item.{Item}

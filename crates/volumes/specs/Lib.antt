@@ -1,5 +1,4 @@
 pub mod Answers
-pub mod Faults
 pub mod Handing
 pub mod Items
 pub mod Layout

@@ -11,7 +11,7 @@ use Rattle.rules.specs.declared.parts.RuleParts.{RuleParts}
 use Rattle.rules.specs.Logic.{Each, Formula, implicationOf}
 use Rattle.rules.specs.Bounds.{RuleAtom, bodyOf, headOf}
 use Rattle.volumes.specs.declared.VolumeKind.the-variants.{Rules}
-use Rattle.volumes.specs.declared.faults.AtomFault.{AtomFault}
+use Rattle.faults.specs.declared.AtomFault.{AtomFault}
 use Rattle.volumes.specs.declared.cursor.RuleAtoms.{RuleAtoms}
 use Rattle.volumes.specs.Sequence.{Stand}
 use Rattle.volumes.specs.Layout.{at, AtomSays, RuleBegins, span}

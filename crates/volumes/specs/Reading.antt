@@ -15,16 +15,16 @@ use Rattle.rules.specs.Logic.{Formula, Implication}
 use Rattle.rules.specs.Bounds.{existentials}
 use Rattle.volumes.specs.declared.VolumeKind.{VolumeKind}
 use Rattle.volumes.specs.declared.VolumeKind.the-variants.{Rules, Facts}
-use Rattle.volumes.specs.declared.faults.Cut.{Cut}
-use Rattle.volumes.specs.declared.faults.TermFault.{TermFault}
-use Rattle.volumes.specs.declared.faults.TermFault.the-variants.{Ended, Kind, Number}
-use Rattle.volumes.specs.declared.faults.AtomFault.{AtomFault}
-use Rattle.volumes.specs.declared.faults.AtomFault.the-variants.{CutShort, Arity}
-use Rattle.volumes.specs.declared.faults.EntryFault.{EntryFault}
-use Rattle.volumes.specs.declared.faults.EntryFault.the-variants.{EntryEnded, Count, Left, Existentials}
-use Rattle.volumes.specs.declared.faults.VolumeFault.the-variants.{Short, FirstByte, TooMany, Ends, NotRising, Misplaced}
-use Rattle.volumes.specs.declared.faults.Fault.{Fault}
-use Rattle.volumes.specs.Faults.{cutAt, atomFault, entryFault, fault, inVolume}
+use Rattle.faults.specs.declared.Cut.{Cut}
+use Rattle.faults.specs.declared.TermFault.{TermFault}
+use Rattle.faults.specs.declared.TermFault.the-variants.{Ended, Kind, Number}
+use Rattle.faults.specs.declared.AtomFault.{AtomFault}
+use Rattle.faults.specs.declared.AtomFault.the-variants.{CutShort, Arity}
+use Rattle.faults.specs.declared.EntryFault.{EntryFault}
+use Rattle.faults.specs.declared.EntryFault.the-variants.{EntryEnded, Count, Left, Existentials}
+use Rattle.faults.specs.declared.VolumeFault.the-variants.{Short, FirstByte, TooMany, Ends, NotRising, Misplaced}
+use Rattle.faults.specs.declared.Fault.{Fault}
+use Rattle.faults.specs.Faults.{cutAt, atomFault, entryFault, fault, inVolume}
 use Rattle.volumes.specs.Layout.{at, pair, otherKind, span, firstByte, most, count, contentsEnd, number, extent, rulesEnd, factPlace, Numbered}
 
 -- then the next reader, unless there was a fault

@@ -7,14 +7,14 @@ ghost use Rattle.std.specs.declared.result.Result.the-variants.{Ok, Err};
 ghost use Rattle.std.specs.Vec.{made};
 ghost use Rattle.rules.specs.Logic.{formulaOf};
 ghost use Rattle.volumes.specs.Reading.{readTerms, readAtom};
-use crate::AtomFault;
-use crate::TermFault;
 use crate::VolumeKind;
-use crate::faults::AtomFaultFromCut;
-use crate::faults::AtomFaultFromTerm;
 use crate::fields::read_byte;
 use crate::fields::read_pair;
 use crate::term::read_term;
+use faults::AtomFault;
+use faults::AtomFaultFromCut;
+use faults::AtomFaultFromTerm;
+use faults::TermFault;
 use rules::Atom;
 use rules::Term;
 

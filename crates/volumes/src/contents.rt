@@ -2,10 +2,10 @@
 ghost use mathlib.Core.Path.{_≡_};
 ghost use Rattle.volumes.specs.Layout.{firstByte, most, width};
 ghost use Rattle.volumes.specs.Reading.{readCount};
-use crate::Fault;
-use crate::VolumeFault;
 use crate::VolumeKind;
 use crate::fields::pair_at;
+use faults::Fault;
+use faults::VolumeFault;
 
 fn first_byte(kind: VolumeKind) -> u8
     ensures { λ r. ⌜ r ≡ firstByte kind ⌝ }

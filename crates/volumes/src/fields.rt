@@ -5,7 +5,7 @@ ghost use lib.ListN.{length};
 ghost use Rattle.std.specs.Vec.{made};
 ghost use Rattle.volumes.specs.Layout.{pair};
 ghost use Rattle.volumes.specs.Reading.{readByte, readPair};
-use crate::Cut;
+use faults::Cut;
 
 /// The two-byte number at a place, high byte first.
 pub(crate) fn pair_at(bytes: &[u8], p: usize) -> u16

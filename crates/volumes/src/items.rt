@@ -1,12 +1,12 @@
 //! Handing out a rule's atoms.
 ghost use mathlib.Core.Path.{_≡_};
 ghost use Rattle.volumes.specs.Items.{Hands};
-use crate::AtomFault;
 use crate::VolumeKind;
 use crate::atom::read_atom;
 use crate::cursor::Item;
 use crate::cursor::Placed;
 use crate::cursor::RuleAtoms;
+use faults::AtomFault;
 
 impl<'a> RuleAtoms<'a> {
     /// The next atom, or the end; or what is wrong with the atom that should stand here. After an end or a fault the

@@ -4,11 +4,11 @@ ghost use Prim.Native.Nat.{_+_, _≤_};
 ghost use lib.ListN.{length};
 ghost use Rattle.std.specs.Vec.{made};
 ghost use Rattle.volumes.specs.Reading.{allowed?, otherTerm, readTerm};
-use crate::TermFault;
 use crate::VolumeKind;
-use crate::faults::TermFaultFromCut;
 use crate::fields::read_byte;
 use crate::fields::read_pair;
+use faults::TermFault;
+use faults::TermFaultFromCut;
 use rules::Term;
 
 /// Whether a term in such a volume may be of this kind.

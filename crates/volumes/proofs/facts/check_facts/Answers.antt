@@ -1,5 +1,0 @@
-use Rattle.volumes.proofs.Checking.{facts-checked}
-use Rattle.volumes.proofs.facts.check_facts.Needs as need
-
-pub returns : need.returns
-returns c = facts-checked _ _ (c .count-facts .ensures)

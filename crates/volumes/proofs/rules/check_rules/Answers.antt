@@ -1,5 +1,0 @@
-use Rattle.volumes.proofs.Checking.{rules-checked}
-use Rattle.volumes.proofs.rules.check_rules.Needs as need
-
-pub returns : need.returns
-returns c = rules-checked _ _ (c .count-rules .ensures)

@@ -1,6 +1,0 @@
-use borrow.Author.Needs.{needs}
-use Rattle.volumes.proofs.RuleVolumes.{ends-more}
-use Rattle.volumes.proofs.rules.rules_end.Needs as need
-
-pub loop-i-again : need.loop-i-again
-loop-i-again c = search (needs, ends-more)
