@@ -1,5 +1,8 @@
 -- Each fault's number, the rank of its layer, and its place.
+use mathlib.Core.List.{List, _++_}
 use Prim.Native.Nat.{ℕ}
+use lib.Chars.{codes}
+use Rattle.std.specs.Written.{decimal}
 use Rattle.faults.specs.declared.Cut.{Cut}
 use Rattle.faults.specs.declared.TermFault.{TermFault}
 use Rattle.faults.specs.declared.TermFault.the-variants.{Ended, Kind, Number}
@@ -104,3 +107,8 @@ fault layer index place = record { layer = layer; index = index; place = place }
 -- the fault of the i-th rule or fact as one of the volume
 abbrev pub inVolume : ℕ → EntryFault → Fault
 inVolume i f = fault (InEntry f) i (entryPlace f)
+
+-- what a fault is printed as: the number, the rank, the index and the place, as X 8 4 0 12
+abbrev pub faultText : Fault → List ℕ
+faultText f =
+    codes "X " ++ (decimal (numberOf (f .layer)) ++ (codes " " ++ (decimal (rankOf (f .layer)) ++ (codes " " ++ (decimal (f .index) ++ (codes " " ++ decimal (f .place)))))))

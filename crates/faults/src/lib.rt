@@ -4,6 +4,10 @@ ghost use Rattle.faults.specs.declared.TermFault.the-variants.{Ended};
 ghost use Rattle.faults.specs.declared.AtomFault.the-variants.{CutShort};
 ghost use Rattle.faults.specs.Faults.{atomFault, entryFault, inVolume, entryPlace, atomPlace, termPlace, rankOf, numberOf};
 
+mod show;
+
+pub use show::FaultDisplay;
+
 /// The bytes ended inside a field. The place is where they end.
 #[derive(Clone, Copy, PartialEq)]
 pub struct Cut {

@@ -6,11 +6,8 @@ use lib.Chars.{codes}
 use Rattle.std.specs.Written.{decimal}
 use Rattle.rules.specs.declared.Term.{Term}
 use Rattle.rules.specs.declared.Term.the-variants.{Constant, Variable, Null}
-use Rattle.rules.specs.declared.Atom.{Atom}
-use Rattle.rules.specs.declared.rule.Rule.{Rule}
-use Rattle.rules.specs.Logic.{Implication, formulaOf}
-use Rattle.rules.specs.Bounds.{some, has?, bodyOf, headOf}
-use Rattle.rules.specs.Rules.{meaning}
+use Rattle.rules.specs.Logic.{Formula, Implication}
+use Rattle.rules.specs.Bounds.{some, has?}
 
 -- each text with the separator before it
 abbrev pub preceded : List ℕ → List (List ℕ) → List ℕ
@@ -32,27 +29,26 @@ termBy universal (Constant n) = decimal n
 termBy universal (Variable n) = letter (universal n) ++ decimal n
 termBy universal (Null n) = codes "n" ++ decimal n
 
--- the predicate, and the terms that count in parentheses, as p1(x0,3)
-abbrev pub atomBy : (ℕ → Bool) → Atom → List ℕ
-atomBy universal a =
-    codes "p" ++ (decimal (a .predicate) ++ (codes "(" ++ (separated (codes ",") (map (termBy universal) (formulaOf a .terms)) ++ codes ")")))
+-- the predicate, and the terms in parentheses, as p1(x0,3)
+abbrev pub formulaBy : (ℕ → Bool) → Formula → List ℕ
+formulaBy universal a =
+    codes "p" ++ (decimal (a .predicate) ++ (codes "(" ++ (separated (codes ",") (map (termBy universal) (a .terms)) ++ codes ")")))
 
--- the atoms, with a comma and a space between each two
-abbrev pub atomsBy : (ℕ → Bool) → List Atom → List ℕ
-atomsBy universal atoms = separated (codes ", ") (map (atomBy universal) atoms)
+-- the formulas, with a comma and a space between each two
+abbrev pub formulasBy : (ℕ → Bool) → List Formula → List ℕ
+formulasBy universal formulas = separated (codes ", ") (map (formulaBy universal) formulas)
 
 -- outside of a rule each variable has the letter x
 abbrev pub termText : Term → List ℕ
 termText t = termBy (λ v. true) t
 
-abbrev pub atomText : Atom → List ℕ
-atomText a = atomBy (λ v. true) a
+abbrev pub formulaText : Formula → List ℕ
+formulaText a = formulaBy (λ v. true) a
 
 -- in a rule a variable is universal where it stands in the body
 abbrev pub universal? : Implication → ℕ → Bool
 universal? r v = some (has? v) (r .body)
 
 -- the body, an arrow and the head
-abbrev pub ruleText : Rule → List ℕ
-ruleText r =
-    atomsBy (universal? (meaning r)) (bodyOf (r .parts)) ++ (codes " -> " ++ atomsBy (universal? (meaning r)) (headOf (r .parts)))
+abbrev pub ruleText : Implication → List ℕ
+ruleText r = formulasBy (universal? r) (r .body) ++ (codes " -> " ++ formulasBy (universal? r) (r .head))

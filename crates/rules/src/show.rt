@@ -6,7 +6,8 @@ ghost use Rattle.std.specs.declared.option.Option.the-variants.{Some};
 ghost use Rattle.std.specs.Written.{Prints};
 ghost use Rattle.rules.specs.Logic.{formulaOf};
 ghost use Rattle.rules.specs.Bounds.{some, has?};
-ghost use Rattle.rules.specs.Text.{separated, termBy, atomBy, atomsBy, termText, atomText, ruleText};
+ghost use Rattle.rules.specs.Rules.{meaning};
+ghost use Rattle.rules.specs.Text.{separated, termBy, formulaBy, formulasBy, termText, formulaText, ruleText};
 use crate::Atom;
 use crate::Rule;
 use crate::Term;
@@ -23,7 +24,7 @@ pub impl fmt::Display for Term as TermDisplay {
 }
 
 pub impl fmt::Display for Atom as AtomDisplay {
-    ghost shown = { λ a. Some (atomText a) };
+    ghost shown = { λ a. Some (formulaText (formulaOf a)) };
 
     fn fmt<W: fmt::Write>(&self, f: &mut fmt::Formatter<W>) -> fmt::Result {
         write_atom(self, true, &[], f)
@@ -31,7 +32,7 @@ pub impl fmt::Display for Atom as AtomDisplay {
 }
 
 pub impl fmt::Display for Rule as RuleDisplay {
-    ghost shown = { λ r. Some (ruleText r) };
+    ghost shown = { λ r. Some (ruleText (meaning r)) };
 
     fn fmt<W: fmt::Write>(&self, f: &mut fmt::Formatter<W>) -> fmt::Result {
         let body = self.body();
@@ -95,7 +96,7 @@ fn write_atom<W: fmt::Write>(
     body: &[Atom],
     f: &mut fmt::Formatter<W>,
 ) -> fmt::Result
-    ensures { λ r. ⌜ Prints took (now (f .entry)) r (atomBy (λ v. all || some (has? v) (map formulaOf (now (body .entry)))) (now (a .entry))) (now (f .exit)) ⌝ }
+    ensures { λ r. ⌜ Prints took (now (f .entry)) r (formulaBy (λ v. all || some (has? v) (map formulaOf (now (body .entry)))) (formulaOf (now (a .entry)))) (now (f .exit)) ⌝ }
 {
     let p = a.predicate;
     write!(f, "p{p}(")?;
@@ -108,7 +109,7 @@ fn write_atoms<W: fmt::Write>(
     body: &[Atom],
     f: &mut fmt::Formatter<W>,
 ) -> fmt::Result
-    ensures { λ r. ⌜ Prints took (now (f .entry)) r (atomsBy (λ v. some (has? v) (map formulaOf (now (body .entry)))) (now (atoms .entry))) (now (f .exit)) ⌝ }
+    ensures { λ r. ⌜ Prints took (now (f .entry)) r (formulasBy (λ v. some (has? v) (map formulaOf (now (body .entry)))) (map formulaOf (now (atoms .entry)))) (now (f .exit)) ⌝ }
 {
     for i in 0..atoms.len() {
         write_between(i, ", ", f)?;

@@ -13,3 +13,4 @@ pub mod RuleReading
 pub mod Checking
 pub mod Together
 pub mod Had
+pub mod Shown

@@ -5,4 +5,5 @@ pub mod Layout
 pub mod Parts
 pub mod Reading
 pub mod Sequence
+pub mod Text
 pub mod Volumes

@@ -7,6 +7,7 @@ mod fields;
 mod items;
 mod rule;
 mod rule_volume;
+mod show;
 mod term;
 mod volume;
 
@@ -15,6 +16,8 @@ pub use cursor::Placed;
 pub use cursor::RuleAtoms;
 pub use fact_volume::check_facts;
 pub use rule_volume::check_rules;
+pub use show::FactVolumeDisplay;
+pub use show::RuleVolumeDisplay;
 pub use volume::FactVolume;
 pub use volume::NumberedRule;
 pub use volume::RuleVolume;
