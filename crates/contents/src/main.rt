@@ -1,5 +1,4 @@
 //! Prints what the volume on standard input holds: a rule or a fact to a line, or its first fault.
-ghost use mathlib.Core.Path.{_≡_};
 ghost use denote.Ref.{now};
 ghost use Rattle.std.specs.declared.option.Option.the-variants.{Some};
 ghost use Rattle.std.specs.Written.{Prints};

@@ -1,9 +1,8 @@
 -- What parts make a rule: the counts that every rule keeps, as tests and in words.
-use mathlib.Core.Path.{_≡_}
 use mathlib.Core.Bool.{Bool, true, false, not, _&&_, _||_}
-use mathlib.Core.List.{List, [], _∷_, _++_, map}
-use Prim.Native.Nat.{ℕ, zero, suc, _+_, _<_, _≤_}
-use lib.Dec.{leb, ltb, eqb}
+use mathlib.Core.List.{List, [], _∷_}
+use Prim.Native.Nat.{ℕ, zero, suc, _+_, _≤_}
+use lib.Dec.{leb, eqb}
 use lib.ListN.{take}
 use mathlib.Core.Bool.{cond}
 use Rattle.rules.specs.declared.Term.{Term}

@@ -1,13 +1,12 @@
 -- What atoms and rules mean, with no bound on their numbers.
 use mathlib.Core.Path.{_≡_}
-use mathlib.Core.Bool.{Bool, true, false, not, _&&_, cond}
+use mathlib.Core.Bool.{not}
 use mathlib.Core.List.{List, [], _∷_, _++_, map}
 use mathlib.Core.Logic.{_⊎_}
-use Prim.Native.Nat.{ℕ, zero, suc}
-use lib.Dec.{eqb}
+use Prim.Native.Nat.{ℕ}
 use lib.ListN.{take}
 use Rattle.rules.specs.declared.Term.{Term}
-use Rattle.rules.specs.declared.Term.the-variants.{Constant, Variable, Null}
+use Rattle.rules.specs.declared.Term.the-variants.{Variable}
 use Rattle.rules.specs.declared.Atom.{Atom}
 use Rattle.rules.specs.declared.parts.RuleParts.{RuleParts}
 

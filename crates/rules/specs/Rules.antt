@@ -1,6 +1,5 @@
 -- Rules as they are held.
 use mathlib.Core.Path.{_≡_}
-use mathlib.Core.List.{List}
 use Rattle.std.specs.declared.option.Option.{Option}
 use Rattle.std.specs.declared.option.Option.the-variants.{Some, None}
 use Rattle.rules.specs.declared.parts.RuleParts.{RuleParts}

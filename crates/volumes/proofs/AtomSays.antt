@@ -1,25 +1,23 @@
 -- An atom that is read in a rule is one that stands there and that a rule may have.
-use mathlib.Core.Path.{_≡_, refl, sym, ap, subst, _∙_}
+use mathlib.Core.Path.{_≡_, sym, ap, subst, _∙_}
 use mathlib.Core.List.{List, [], _∷_}
-use mathlib.Core.Logic.{_⊎_, inl, inr}
-use Prim.Native.Nat.{ℕ, _+_, _-_, _*_, _≤_, _<_}
+use mathlib.Core.Logic.{inl, inr}
+use Prim.Native.Nat.{ℕ, _+_, _-_, _*_, _≤_}
 use native.Mathlib.Omega.{arith}
 use lib.ListN.{length, take, drop}
 use Rattle.std.specs.declared.result.Result.{Result}
-use Rattle.std.specs.declared.result.Result.the-variants.{Ok, Err}
+use Rattle.std.specs.declared.result.Result.the-variants.{Ok}
 use Rattle.rules.specs.declared.Term.{Term}
 use Rattle.rules.specs.declared.Term.the-variants.{Constant, Variable, Null}
 use Rattle.rules.specs.declared.Atom.{Atom}
-use Rattle.rules.specs.Logic.{In, Each, Formula, formulaOf}
+use Rattle.rules.specs.Logic.{Each, Formula, formulaOf}
 use Rattle.rules.specs.Bounds.{Plain, RuleAtom}
-use Rattle.volumes.specs.declared.VolumeKind.{VolumeKind}
 use Rattle.volumes.specs.declared.VolumeKind.the-variants.{Rules, Facts}
 use Rattle.faults.specs.declared.AtomFault.{AtomFault}
-use Rattle.faults.specs.declared.TermFault.{TermFault}
 use Rattle.volumes.specs.declared.cursor.RuleAtoms.{RuleAtoms}
 use Rattle.volumes.specs.declared.cursor.Placed.{Placed}
 use Rattle.volumes.specs.Sequence.{Stand}
-use Rattle.volumes.specs.Layout.{TermAt, TermSays, AtomSays, AtomStands, span}
+use Rattle.volumes.specs.Layout.{TermAt, TermSays, AtomSays, span}
 use Rattle.volumes.specs.Reading.{readAtom}
 use Rattle.volumes.specs.Items.{SameRule, Handed}
 use Rattle.volumes.proofs.Atoms.{atom-right}

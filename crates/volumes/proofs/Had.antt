@@ -1,14 +1,12 @@
 -- What is had from a volume that is taken up.
 use mathlib.Core.Path.{_≡_, refl, sym, ap, subst, _∙_}
-use mathlib.Core.List.{List, [], _∷_, _++_}
-use Prim.Native.Nat.{ℕ, _+_, _*_, _≤_, _<_}
+use mathlib.Core.List.{List, [], _++_}
+use Prim.Native.Nat.{ℕ, _+_, _≤_, _<_}
 use native.Mathlib.Omega.{arith}
 use lib.ListN.{length, getD, length-append}
 use Rattle.std.proofs.shelf.Lists.{getD-default}
 use Rattle.std.specs.declared.result.Result.{Result}
 use Rattle.std.specs.declared.result.Result.the-variants.{Ok, Err}
-use Rattle.std.specs.declared.option.Option.{Option}
-use Rattle.std.specs.declared.option.Option.the-variants.{Some, None}
 use Rattle.rules.specs.declared.Atom.{Atom}
 use Rattle.rules.specs.Logic.{Formula, Implication, formulaOf}
 use Rattle.rules.specs.Rules.{meaning}
@@ -28,7 +26,7 @@ use Rattle.volumes.specs.Volumes.{rulesOf, Nth, numbered, AtomsHad}
 use Rattle.volumes.proofs.RuleBodies.{rule-right}
 use Rattle.volumes.proofs.RuleVolumes.{ends-rise, rules-encoded, rules-count, rules-few, rules-contents, rule-at}
 use Rattle.volumes.proofs.Together.{hands-out}
-use Rattle.volumes.proofs.FactVolumes.{facts-encoded, facts-count, facts-few, facts-contents, fact-at, fact-place}
+use Rattle.volumes.proofs.FactVolumes.{facts-count, facts-few, facts-contents, fact-at, fact-place}
 
 -- something was taken up, so there was no fault
 some-taken : {A : Type 0} (r : Result (List A) Fault) (i : ℕ) → i < length (taken r) → (xs : List A) × (r ≡ Ok xs)

@@ -1,17 +1,15 @@
 -- One turn over a rule's atoms: the parts hold those that the reader has passed.
 use mathlib.Core.Path.{_≡_, refl, sym, ap, subst, _∙_}
 use mathlib.Core.List.{List, [], _∷_, _++_, map, append-nil, append-assoc}
-use mathlib.Core.Logic.{_⊎_, inl, inr}
-use Prim.Native.Nat.{ℕ, _+_, _*_, _≤_, _<_}
-use native.Mathlib.Nat.{zero-add}
+use mathlib.Core.Logic.{inl, inr}
+use Prim.Native.Nat.{ℕ, _+_}
 use native.Mathlib.Omega.{arith}
-use lib.ListN.{length, take, drop}
+use lib.ListN.{length, take}
 use Rattle.std.proofs.shelf.Lists.{length-push}
 use Rattle.std.specs.declared.result.Result.{Result}
 use Rattle.std.specs.declared.result.Result.the-variants.{Ok, Err}
-use Rattle.rules.specs.declared.Atom.{Atom}
 use Rattle.rules.specs.declared.parts.RuleParts.{RuleParts}
-use Rattle.rules.specs.Logic.{In, Each, Formula, formulaOf}
+use Rattle.rules.specs.Logic.{Each, Formula, formulaOf}
 use Rattle.rules.specs.Bounds.{RuleAtom, bodyOf, headOf}
 use Rattle.volumes.specs.declared.VolumeKind.the-variants.{Rules}
 use Rattle.faults.specs.declared.AtomFault.{AtomFault}

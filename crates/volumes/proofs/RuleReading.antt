@@ -1,23 +1,22 @@
 -- What comes of a rule's atoms when the reader stops.
-use mathlib.Core.Path.{_≡_, refl, sym, ap, subst, _∙_}
-use mathlib.Core.List.{List, [], _∷_, _++_, map}
+use mathlib.Core.Path.{_≡_, refl, subst, _∙_}
+use mathlib.Core.List.{List, map}
 use mathlib.Core.Logic.{⊎-elim}
 use Prim.Native.Nat.{ℕ, _+_, _≤_, _<_}
 use native.Mathlib.Omega.{arith}
 use lib.ListN.{length, length-map, length-append}
 use Rattle.std.proofs.shelf.Tests.{cases-lt}
-use Rattle.std.specs.declared.result.Result.{Result}
 use Rattle.std.specs.declared.result.Result.the-variants.{Ok, Err}
 use Rattle.rules.specs.declared.parts.RuleParts.{RuleParts}
-use Rattle.rules.specs.Logic.{Formula, formulaOf, implicationOf}
+use Rattle.rules.specs.Logic.{formulaOf, implicationOf}
 use Rattle.rules.specs.Bounds.{bodyOf, headOf, existentials, MakesRule}
 use Rattle.volumes.specs.declared.VolumeKind.the-variants.{Rules}
 use Rattle.faults.specs.declared.AtomFault.{AtomFault}
 use Rattle.faults.specs.declared.EntryFault.the-variants.{Left, Existentials}
 use Rattle.volumes.specs.declared.cursor.RuleAtoms.{RuleAtoms}
 use Rattle.faults.specs.Faults.{entryFault}
-use Rattle.volumes.specs.Sequence.{Stand, Stops}
-use Rattle.volumes.specs.Layout.{at, span, AtomSays, RuleBegins, RuleAtomsSay, RuleFilled, RuleStands, RuleWrong}
+use Rattle.volumes.specs.Sequence.{Stand}
+use Rattle.volumes.specs.Layout.{span, AtomSays, RuleAtomsSay, RuleFilled, RuleWrong}
 use Rattle.volumes.specs.Reading.{readRule}
 use Rattle.volumes.specs.Parts.{formulas, Passed, CountsRead}
 use Rattle.volumes.proofs.RuleBodies.{rule-only}

@@ -2,10 +2,9 @@
 use mathlib.Core.Path.{_≡_, refl, sym, ap, subst, _∙_}
 use mathlib.Core.Bool.{Bool, true, false}
 use mathlib.Core.List.{List, [], _∷_, _++_}
-use Prim.Native.Nat.{ℕ, _+_, _*_, _≤_, _<_}
+use Prim.Native.Nat.{ℕ, _+_, _<_}
 use native.Mathlib.Omega.{arith}
 use lib.ListN.{length, take, drop}
-use Rattle.std.specs.declared.result.Result.{Result}
 use Rattle.std.specs.declared.result.Result.the-variants.{Ok, Err}
 use Rattle.rules.specs.Logic.{Formula, Implication, formulaOf}
 use Rattle.volumes.specs.declared.VolumeKind.the-variants.{Rules}
@@ -16,7 +15,7 @@ use Rattle.volumes.specs.declared.cursor.Item.{Item}
 use Rattle.volumes.specs.declared.cursor.Item.the-variants.{Body, Head, End}
 use Rattle.volumes.specs.Sequence.{Stand}
 use Rattle.volumes.specs.Layout.{AtomSays, span}
-use Rattle.volumes.specs.Items.{SameRule, Unmoved, Handed, Hands}
+use Rattle.volumes.specs.Items.{Handed, Hands}
 use Rattle.volumes.specs.Handing.{Seen, seenAs, seen, laidOut, spans, Chain, Left, HandsOut}
 use Rattle.volumes.proofs.Atoms.{atom-only}
 

@@ -1,7 +1,9 @@
 -- The layout of volumes by places: what stands where in the bytes, and which fault is the first.
 -- Each line of a `..Wrong` is one condition; what comes before it in the order of the checks is whole and right.
+-- A `..Says` puts both together: of `Ok x`, that x is there, and of `Err f`, that f is wrong there.
+-- bs are the bytes, p or s is where a thing begins, and e is where the part ends in which it has to stand.
 use mathlib.Core.Path.{_≡_}
-use mathlib.Core.List.{List, [], _∷_, _++_}
+use mathlib.Core.List.{List, _++_}
 use mathlib.Core.Logic.{_⊎_}
 use Prim.Native.Nat.{ℕ, zero, suc, _+_, _*_, _≤_, _<_}
 use lib.ListN.{length, getD}
@@ -48,7 +50,7 @@ TermAt k bs p (Constant n) = (at bs p ≡ 0) × (pair bs (p + 1) ≡ n)
 TermAt k bs p (Variable n) = (k ≡ Rules) × (at bs p ≡ 1) × (pair bs (p + 1) ≡ n) × (n ≤ 11)
 TermAt k bs p (Null n) = (k ≡ Facts) × (at bs p ≡ 2) × (pair bs (p + 1) ≡ n)
 
--- f is wrong with the term at p, in a part of the bytes that ends at e
+-- f is wrong with the term at p
 pub data TermWrong (k : VolumeKind) (bs : List ℕ) (e p : ℕ) (f : TermFault) : Type 0 where
   no-kind : e < p + 1 → f ≡ Ended (cutAt e) → TermWrong k bs e p f
   wrong-kind : p + 1 ≤ e → (KindAllowed k (at bs p) → ⊥) → f ≡ Kind p → TermWrong k bs e p f
@@ -61,6 +63,7 @@ TermSays k bs e p (Err f) = TermWrong k bs e p f
 
 -- ATOMS: the predicate, two bytes, the arity, a byte, and the terms.
 
+-- an arity is 1 to 4
 pub record ArityAllowed (n : ℕ) : Type 0 where
   pub some : 1 ≤ n
   pub few : n ≤ 4
@@ -80,6 +83,7 @@ pub record AtomStands (k : VolumeKind) (bs : List ℕ) (e p : ℕ) (a : Formula)
   pub predicate : a .predicate ≡ pair bs p
   pub terms : TermsSay k bs e p (Ok (a .terms, p + 3 + 3 * length (a .terms)))
 
+-- f is wrong with the atom at p
 pub data AtomWrong (k : VolumeKind) (bs : List ℕ) (e p : ℕ) (f : AtomFault) : Type 0 where
   no-beginning : e < p + 3 → f ≡ CutShort (cutAt e) → AtomWrong k bs e p f
   wrong-arity : p + 3 ≤ e → (ArityAllowed (at bs (p + 2)) → ⊥) → f ≡ Arity (p + 2) → AtomWrong k bs e p f
@@ -99,6 +103,7 @@ AtomsSay k bs e p n r = Run (λ _ q a. AtomSays k bs e q a) (λ _ q a. q + span 
 
 -- RULES: the counts of body atoms and of head atoms, a byte each, and the atoms. A rule has the bytes from s to e.
 
+-- one to six body atoms, and one to four head atoms
 pub record BodyCount (n : ℕ) : Type 0 where
   pub some : 1 ≤ n
   pub few : n ≤ 6
@@ -107,6 +112,7 @@ pub record HeadCount (n : ℕ) : Type 0 where
   pub some : 1 ≤ n
   pub few : n ≤ 4
 
+-- the counts are whole and right
 pub record RuleBegins (bs : List ℕ) (e s : ℕ) : Type 0 where
   pub whole : s + 2 ≤ e
   pub bodies : BodyCount (at bs s)
@@ -122,10 +128,12 @@ pub record RuleFilled (bs : List ℕ) (e s : ℕ) (r : Implication) : Type 0 whe
   pub bodies : length (r .body) ≡ at bs s
   pub atoms : RuleAtomsSay bs e s (Ok (r .body ++ r .head, e))
 
+-- the rule stands from s to e
 pub record RuleStands (bs : List ℕ) (e s : ℕ) (r : Implication) : Type 0 where
   pub filled : RuleFilled bs e s r
   pub few-new : existentials r ≤ 4
 
+-- f is wrong with the rule from s to e
 pub data RuleWrong (bs : List ℕ) (e s : ℕ) (f : EntryFault) : Type 0 where
   no-counts : e < s + 2 → f ≡ EntryEnded (cutAt e) → RuleWrong bs e s f
   body-count : s + 2 ≤ e → (BodyCount (at bs s) → ⊥) → f ≡ Count s → RuleWrong bs e s f
@@ -160,12 +168,14 @@ count bs = pair bs 1
 abbrev pub contentsEnd : VolumeKind → List ℕ → ℕ
 contentsEnd k bs = 3 + width k * count bs
 
+-- head and contents are whole and right
 pub record ContentsWhole (k : VolumeKind) (bs : List ℕ) : Type 0 where
   pub head : 3 ≤ length bs
   pub first : at bs 0 ≡ firstByte k
   pub few : count bs ≤ most k
   pub whole : contentsEnd k bs ≤ length bs
 
+-- f is wrong with the head or with the length of the contents
 pub data ContentsWrong (k : VolumeKind) (bs : List ℕ) (f : Fault) : Type 0 where
   no-head : length bs < 3 → f ≡ fault Short 0 (length bs) → ContentsWrong k bs f
   first-byte : 3 ≤ length bs → (at bs 0 ≡ firstByte k → ⊥) → f ≡ fault FirstByte 0 0 → ContentsWrong k bs f
@@ -174,10 +184,12 @@ pub data ContentsWrong (k : VolumeKind) (bs : List ℕ) (f : Fault) : Type 0 whe
 
 -- RULE VOLUMES: the contents have each rule's number and how many bytes it has.
 
+-- a rule with its number
 pub record Numbered : Type 0 where
   pub number : ℕ
   pub rule : Implication
 
+-- the number and the length of the rule of index i
 abbrev pub number : List ℕ → ℕ → ℕ
 number bs i = pair bs (3 + 4 * i)
 
@@ -202,6 +214,7 @@ RuleEntry bs i s (Err f) = (g : EntryFault) × RuleSays bs (s + extent bs i) s (
 abbrev pub RulesSay : List ℕ → Result (List Numbered × ℕ) Fault → Type 0
 RulesSay bs r = Run (RuleEntry bs) (λ i s _. s + extent bs i) 0 (contentsEnd Rules bs) (count bs) r
 
+-- the contents are right, and the rules end where the volume does
 pub record RulesBegin (bs : List ℕ) : Type 0 where
   pub contents : ContentsWhole Rules bs
   pub rising : Rising bs (count bs)
@@ -212,6 +225,7 @@ pub record EncodesRules (bs : List ℕ) (xs : List Numbered) : Type 0 where
   pub begins : RulesBegin bs
   pub rules : RulesSay bs (Ok (xs, length bs))
 
+-- f is the first fault of the bytes as a rule volume
 pub data RuleVolumeWrong (bs : List ℕ) (f : Fault) : Type 0 where
   contents : ContentsWrong Rules bs f → RuleVolumeWrong bs f
   not-rising : ContentsWhole Rules bs → (i : ℕ) → i + 1 < count bs → Rising bs (i + 1) → number bs (i + 1) ≤ number bs i → f ≡ fault NotRising (i + 1) (3 + 4 * (i + 1)) → RuleVolumeWrong bs f
@@ -224,9 +238,11 @@ RuleVolumeSays bs (Err f) = RuleVolumeWrong bs f
 
 -- FACT VOLUMES: the contents have the place of each fact's first byte.
 
+-- where the fact of index i begins, as the contents say
 abbrev pub factPlace : List ℕ → ℕ → ℕ
 factPlace bs i = pair bs (3 + 2 * i)
 
+-- f is wrong with the fact of index i, where the one before it ends at p
 pub data FactWrong (bs : List ℕ) (i p : ℕ) (f : Fault) : Type 0 where
   misplaced : (factPlace bs i ≡ p → ⊥) → f ≡ fault Misplaced i (3 + 2 * i) → FactWrong bs i p f
   wrong-atom : factPlace bs i ≡ p → (a : AtomFault) → AtomSays Facts bs (length bs) p (Err a) → f ≡ inVolume i (entryFault a) → FactWrong bs i p f
@@ -236,6 +252,7 @@ abbrev pub FactEntry : List ℕ → ℕ → ℕ → Result Formula Fault → Typ
 FactEntry bs i p (Ok a) = (factPlace bs i ≡ p) × AtomSays Facts bs (length bs) p (Ok a)
 FactEntry bs i p (Err f) = FactWrong bs i p f
 
+-- what the facts of the volume are
 abbrev pub FactsSay : List ℕ → Result (List Formula × ℕ) Fault → Type 0
 FactsSay bs r = Run (FactEntry bs) (λ _ p a. p + span a) 0 (contentsEnd Facts bs) (count bs) r
 
@@ -244,6 +261,7 @@ pub record EncodesFacts (bs : List ℕ) (xs : List Formula) : Type 0 where
   pub contents : ContentsWhole Facts bs
   pub facts : FactsSay bs (Ok (xs, length bs))
 
+-- f is the first fault of the bytes as a fact volume
 pub data FactVolumeWrong (bs : List ℕ) (f : Fault) : Type 0 where
   contents : ContentsWrong Facts bs f → FactVolumeWrong bs f
   wrong-fact : ContentsWhole Facts bs → FactsSay bs (Err f) → FactVolumeWrong bs f

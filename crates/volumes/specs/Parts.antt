@@ -1,11 +1,11 @@
 -- A rule's parts while they are read.
 use mathlib.Core.Path.{_≡_}
 use mathlib.Core.List.{List, [], _∷_, _++_}
-use Prim.Native.Nat.{ℕ, _+_, _<_, _≤_}
+use Prim.Native.Nat.{ℕ, _+_, _<_}
 use lib.ListN.{length}
 use Rattle.std.specs.Results.{Cases}
 use Rattle.std.specs.declared.result.Result.{Result}
-use Rattle.std.specs.declared.result.Result.the-variants.{Ok, Err}
+use Rattle.std.specs.declared.result.Result.the-variants.{Err}
 use Rattle.rules.specs.declared.Atom.{Atom}
 use Rattle.rules.specs.declared.parts.RuleParts.{RuleParts}
 use Rattle.rules.specs.Logic.{Each, Formula, implicationOf}

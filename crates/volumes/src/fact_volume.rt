@@ -1,14 +1,14 @@
 //! Fact volumes.
 ghost use mathlib.Core.Path.{_≡_};
 ghost use mathlib.Core.List.{List};
-ghost use Prim.Native.Nat.{ℕ, _+_, _*_, _<_, _≤_};
+ghost use Prim.Native.Nat.{_+_, _*_, _<_, _≤_};
 ghost use lib.ListN.{length};
 ghost use Rattle.std.specs.Results.{Cases};
 ghost use Rattle.std.specs.declared.result.Result.the-variants.{Ok, Err};
 ghost use Rattle.std.specs.Vec.{made};
 ghost use Rattle.rules.specs.Logic.{Formula, formulaOf};
 ghost use Rattle.volumes.specs.declared.VolumeKind.the-variants.{Facts};
-ghost use Rattle.volumes.specs.Layout.{ContentsWhole, count as countOf, span, FactVolumeSays};
+ghost use Rattle.volumes.specs.Layout.{ContentsWhole, count as countOf, FactVolumeSays};
 ghost use Rattle.faults.specs.Faults.{entryFault};
 ghost use Rattle.volumes.specs.Reading.{readAtom, readFactEntry, readFactEntries, readFacts};
 ghost use Rattle.volumes.specs.Answers.{Checked, TakenUp, counted};

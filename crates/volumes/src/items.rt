@@ -1,5 +1,4 @@
 //! Handing out a rule's atoms.
-ghost use mathlib.Core.Path.{_≡_};
 ghost use Rattle.volumes.specs.Items.{Hands};
 use crate::VolumeKind;
 use crate::atom::read_atom;

@@ -8,7 +8,7 @@ ghost use Rattle.std.specs.declared.result.Result.the-variants.{Ok, Err};
 ghost use Rattle.rules.specs.Logic.{Implication};
 ghost use Rattle.volumes.specs.declared.VolumeKind.the-variants.{Rules};
 ghost use Rattle.volumes.specs.Layout.{Numbered, contentsEnd, count as countOf, rulesEnd, ContentsWhole, RuleVolumeSays};
-ghost use Rattle.volumes.specs.Reading.{readCount, readRising, readRule, readRuleEntries, readRules};
+ghost use Rattle.volumes.specs.Reading.{readRising, readRule, readRuleEntries, readRules};
 ghost use Rattle.volumes.specs.Answers.{Checked, TakenUp, counted};
 ghost use Rattle.volumes.specs.Volumes.{rulesOf, RuleHad, AtomsHad};
 use crate::VolumeKind;

@@ -1,10 +1,8 @@
-use Prim.Native.Nat.{_+_, _*_, _≤_, _<_}
-use mathlib.Core.Path.{_≡_, refl, sym, ap, subst, _∙_}
-use mathlib.Core.List.{List, [], _∷_, _++_}
+use Prim.Native.Nat.{_+_, _*_}
+use mathlib.Core.Path.{_≡_, sym, ap, _∙_}
 use native.Mathlib.Omega.{arith}
-use lib.ListN.{length}
 use Rattle.std.proofs.shelf.Results.{err-from-errBy}
-use Rattle.volumes.specs.Layout.{rulesEnd, extent, Numbered}
+use Rattle.volumes.specs.Layout.{extent}
 use Rattle.volumes.specs.Reading.{readRuleEntry}
 use Rattle.volumes.proofs.RuleVolumes.{ends-more, ends-rise}
 use Rattle.faults.specs.Faults.{inVolume}

@@ -1,7 +1,4 @@
-use Prim.Native.Nat.{_≤_, _<_}
 use native.Mathlib.Omega.{arith}
-use lib.ListN.{length}
-use Rattle.volumes.specs.Layout.{factPlace}
 use Rattle.volumes.proofs.Had.{fact-there, fact-had, no-fact-fault}
 use Rattle.volumes.proofs.volume.FactVolume.fact.Needs as need
 

@@ -1,8 +1,7 @@
-use Prim.Native.Nat.{_+_, _≤_, _<_}
+use Prim.Native.Nat.{_+_}
 use mathlib.Core.Path.{refl, ap}
 use native.Mathlib.Omega.{arith}
-use lib.ListN.{length}
-use Rattle.volumes.specs.Layout.{at, rulesEnd}
+use Rattle.volumes.specs.Layout.{at}
 use Rattle.volumes.proofs.Had.{rule-there, counts-there, atoms-had}
 use Rattle.volumes.proofs.volume.RuleVolume.atoms.Needs as need
 

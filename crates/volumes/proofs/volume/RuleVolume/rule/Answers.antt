@@ -1,7 +1,4 @@
-use Prim.Native.Nat.{_+_, _≤_, _<_}
 use native.Mathlib.Omega.{arith}
-use lib.ListN.{length}
-use Rattle.volumes.specs.Layout.{rulesEnd}
 use Rattle.volumes.proofs.Had.{rule-there, rule-had, no-rule-fault}
 use Rattle.volumes.proofs.volume.RuleVolume.rule.Needs as need
 
