@@ -2,7 +2,7 @@ ghost use mathlib.Core.Path.{_≡_};
 ghost use lib.ListN.{take};
 ghost use mathlib.Core.List.{map};
 ghost use Rattle.std.specs.Orderings.{Decides};
-ghost use Rattle.rules.specs.Logic.{Universal, formulaOf};
+ghost use Rattle.rules.specs.Logic.{Universal, Existential, formulaOf};
 ghost use Rattle.rules.specs.Bounds.{every, some, has?, isVariable?, plain?, ruleAtom?, existential?, existentials, makesRule?, bodyOf, headOf, MakesRule};
 ghost use Rattle.rules.specs.Rules.{MadeOf, meaning};
 use crate::Atom;
@@ -50,6 +50,13 @@ impl Rule {
         ensures { λ r. ⌜ Decides r (Universal (meaning (now (self .entry))) v) ⌝ }
     {
         some_has(self.body(), v)
+    }
+
+    /// Whether the variable stands in the head, and not in the body.
+    pub fn is_existential(&self, v: u16) -> bool
+        ensures { λ r. ⌜ Decides r (Existential (meaning (now (self .entry))) v) ⌝ }
+    {
+        stands_only_in_head(self.body(), self.head(), v)
     }
 }
 
@@ -159,7 +166,7 @@ pub(crate) fn some_has(atoms: &[Atom], v: u16) -> bool
     false
 }
 
-fn is_existential(body: &[Atom], head: &[Atom], v: u16) -> bool
+fn stands_only_in_head(body: &[Atom], head: &[Atom], v: u16) -> bool
     ensures { λ r. ⌜ r ≡ existential? (record { body = map formulaOf (now (body .entry)); head = map formulaOf (now (head .entry)) }) v ⌝ }
 {
     some_has(head, v) && !some_has(body, v)
@@ -170,7 +177,7 @@ fn count_existentials(body: &[Atom], head: &[Atom]) -> u8
 {
     let mut n = 0;
     for v in 0..12 {
-        if is_existential(body, head, v) {
+        if stands_only_in_head(body, head, v) {
             n += 1;
         }
     }
