@@ -33,7 +33,7 @@ impl<'a> fmt::Display for Contents<'a> {
 }
 
 fn write_rules<W: fmt::Write>(bytes: &[u8], f: &mut fmt::Formatter<W>) -> fmt::Result
-    ensures { WritesOnOk write_str_gives f.old result (answer_text rules_text (read_rules bytes.now)) f.new }
+    ensures { WritesOnOk W.write_str_gives f.old result (answer_text rules_text (read_rules bytes.now)) f.new }
 {
     match check_rules(bytes) {
         Ok(_) => {
@@ -45,7 +45,7 @@ fn write_rules<W: fmt::Write>(bytes: &[u8], f: &mut fmt::Formatter<W>) -> fmt::R
 }
 
 fn write_facts<W: fmt::Write>(bytes: &[u8], f: &mut fmt::Formatter<W>) -> fmt::Result
-    ensures { WritesOnOk write_str_gives f.old result (answer_text facts_text (read_facts bytes.now)) f.new }
+    ensures { WritesOnOk W.write_str_gives f.old result (answer_text facts_text (read_facts bytes.now)) f.new }
 {
     match check_facts(bytes) {
         Ok(_) => {

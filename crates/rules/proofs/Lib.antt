@@ -1,4 +1,5 @@
 pub mod Loops
 pub mod Membership
+pub mod Alike
 pub mod Bounded
 pub mod Shown

@@ -1,4 +1,5 @@
 pub mod Logic
+pub mod Same
 pub mod Bounds
 pub mod Matches
 pub mod Reliances

@@ -1,17 +1,20 @@
 ghost use Rattle.std.specs.Prelude.{◌≡◌, take, Decides};
 ghost use Rattle.rules.specs.Logic.{formula_of};
-ghost use Rattle.std.specs.Cmp.Rules.{comparing};
-ghost use Rattle.std.proofs.Common.{rules};
+ghost use Rattle.rules.specs.Same.{same_formula?};
+ghost use Rattle.rules.specs.Same.{same_formula_laws};
 
 use crate::{Atom, Term};
 
 /// Two atoms are equal where they have the same predicate and the same terms up to their arity.
 impl PartialEq for Atom {
-    ghost equals = { λ a b r. Decides r (formula_of a ≡ formula_of b) };
+    ghost eq = { λ a b. same_formula? (formula_of a) (formula_of b) };
 
-    ghost laws = { Prim.search (comparing, rules) };
+    ghost laws = { same_formula_laws };
 
-    fn eq(&self, other: &Atom) -> bool {
+    fn eq(&self, other: &Atom) -> bool
+        ensures value { result ≡ same_formula? (formula_of self.now) (formula_of other.now) }
+        ensures decides { Decides result (formula_of self.now ≡ formula_of other.now) }
+    {
         if self.predicate != other.predicate {
             return false;
         }

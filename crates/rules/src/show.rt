@@ -44,7 +44,7 @@ fn write_term<W: fmt::Write>(
     body: &[Atom],
     f: &mut fmt::Formatter<W>,
 ) -> fmt::Result
-    ensures { WritesOnOk write_str_gives f.old result (term_by (λ v. all || some (has? v) (map formula_of body.now)) t) f.new }
+    ensures { WritesOnOk W.write_str_gives f.old result (term_by (λ v. all || some (has? v) (map formula_of body.now)) t) f.new }
 {
     match t {
         Term::Constant(n) => write!(f, "{n}"),
@@ -61,7 +61,7 @@ fn write_term<W: fmt::Write>(
 
 // Writes the separator, but not before the first item.
 fn write_between<W: fmt::Write>(i: usize, separator: &str, f: &mut fmt::Formatter<W>) -> fmt::Result
-    ensures { WritesOnOk write_str_gives f.old result (if nat_eq i 0 then [] else separator.now) f.new }
+    ensures { WritesOnOk W.write_str_gives f.old result (if nat_eq i 0 then [] else separator.now) f.new }
 {
     if i == 0 {
         Ok(())
@@ -76,7 +76,7 @@ fn write_terms<W: fmt::Write>(
     body: &[Atom],
     f: &mut fmt::Formatter<W>,
 ) -> fmt::Result
-    ensures { WritesOnOk write_str_gives f.old result (separated (codes ",") (map (term_by (λ v. all || some (has? v) (map formula_of body.now))) terms.now)) f.new }
+    ensures { WritesOnOk W.write_str_gives f.old result (separated (codes ",") (map (term_by (λ v. all || some (has? v) (map formula_of body.now))) terms.now)) f.new }
 {
     for i in 0..terms.len() {
         write_between(i, ",", f)?;
@@ -91,7 +91,7 @@ fn write_atom<W: fmt::Write>(
     body: &[Atom],
     f: &mut fmt::Formatter<W>,
 ) -> fmt::Result
-    ensures { WritesOnOk write_str_gives f.old result (formula_by (λ v. all || some (has? v) (map formula_of body.now)) (formula_of a.now)) f.new }
+    ensures { WritesOnOk W.write_str_gives f.old result (formula_by (λ v. all || some (has? v) (map formula_of body.now)) (formula_of a.now)) f.new }
 {
     let p = a.predicate;
     write!(f, "p{p}(")?;
@@ -104,7 +104,7 @@ fn write_atoms<W: fmt::Write>(
     body: &[Atom],
     f: &mut fmt::Formatter<W>,
 ) -> fmt::Result
-    ensures { WritesOnOk write_str_gives f.old result (formulas_by (λ v. some (has? v) (map formula_of body.now)) (map formula_of atoms.now)) f.new }
+    ensures { WritesOnOk W.write_str_gives f.old result (formulas_by (λ v. some (has? v) (map formula_of body.now)) (map formula_of atoms.now)) f.new }
 {
     for i in 0..atoms.len() {
         write_between(i, ", ", f)?;
