@@ -1,4 +1,6 @@
 //! What can be wrong with a volume, layer by layer: each layer's fault carries that of the layer below.
+#![tactic(auto)]
+
 ghost use Rattle.std.specs.Prelude.{◌≡◌};
 ghost use Rattle.faults.specs.declared.TermFault.TheVariants.{Ended};
 ghost use Rattle.faults.specs.declared.AtomFault.TheVariants.{CutShort};

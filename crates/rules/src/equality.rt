@@ -1,18 +1,17 @@
 ghost use Rattle.std.specs.Prelude.{◌≡◌, take, Decides};
 ghost use Rattle.rules.specs.Logic.{formula_of};
-ghost use Rattle.rules.specs.Same.{same_formula?};
-ghost use Rattle.rules.specs.Same.{same_formula_laws};
+ghost use Rattle.rules.specs.Same.{same_atom?, same_atom_laws};
 
 use crate::{Atom, Term};
 
 /// Two atoms are equal where they have the same predicate and the same terms up to their arity.
 impl PartialEq for Atom {
-    ghost eq = { λ a b. same_formula? (formula_of a) (formula_of b) };
+    ghost eq = { same_atom? };
 
-    ghost laws = { same_formula_laws };
+    ghost laws = { same_atom_laws };
 
     fn eq(&self, other: &Atom) -> bool
-        ensures value { result ≡ same_formula? (formula_of self.now) (formula_of other.now) }
+        ensures value { result ≡ same_atom? self.now other.now }
         ensures decides { Decides result (formula_of self.now ≡ formula_of other.now) }
     {
         if self.predicate != other.predicate {

@@ -1,4 +1,6 @@
 //! Terms, atoms and rules: the plain types, what they mean, and how they are printed.
+#![tactic(auto)]
+
 mod equality;
 mod made;
 mod parts;

@@ -5,17 +5,17 @@ use Rattle.matches.specs.Lists.{look, formulas}
 use Rattle.matches.specs.Matching.{absent_term?}
 use Rattle.matches.proofs.alternative.any_absent.Goals as goal
 
-pub returns-then-is-absent : goal.returns-then-is-absent
-returns-then-is-absent c =
+pub returns-then-is_absent : goal.returns-then-is_absent
+returns-then-is_absent c =
     sym (c.loop-i.invariant
     ∙ some_stop (absent_term? c.args.p.now (look c.args.h.now) (map (under (look c.args.k.now)) (formulas c.args.head.now))) c.args.terms.now c.loop-i.i _ (omega arith)
-    (sym c.is-absent.ensures ∙ c.if-is-absent.true))
+    (sym c.is_absent.ensures ∙ c.if-is_absent.true))
 
 pub loop-i-preserved : goal.loop-i-preserved
 loop-i-preserved c =
     c.loop-i.invariant
     ∙ some_more (absent_term? c.args.p.now (look c.args.h.now) (map (under (look c.args.k.now)) (formulas c.args.head.now))) c.args.terms.now c.loop-i.i _ (omega arith)
-    (sym c.is-absent.ensures ∙ c.if-is-absent.false)
+    (sym c.is_absent.ensures ∙ c.if-is_absent.false)
 
 pub returns : goal.returns
 returns c =

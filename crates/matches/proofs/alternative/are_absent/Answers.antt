@@ -11,17 +11,17 @@ pub loop-i-init : goal.loop-i-init
 loop-i-init c =
     some-map formula_of (λ (x : Formula). some (absent_term? c.args.p.now (look c.args.h.now) (map (under (look c.args.k.now)) (formulas c.args.head.now))) x.terms) c.args.atoms.now
 
-pub returns-then-any-absent : goal.returns-then-any-absent
-returns-then-any-absent c =
+pub returns-then-any_absent : goal.returns-then-any_absent
+returns-then-any_absent c =
     sym (c.loop-i.invariant
     ∙ some_stop (λ x. some (absent_term? c.args.p.now (look c.args.h.now) (map (under (look c.args.k.now)) (formulas c.args.head.now))) (formula_of x).terms) c.args.atoms.now c.loop-i.i _ (omega arith)
-    (sym (c.any-absent.ensures ∙ ap (some (absent_term? c.args.p.now (look c.args.h.now) (map (under (look c.args.k.now)) (formulas c.args.head.now)))) c.first-terms.ensures) ∙ c.if-any-absent.true))
+    (sym (c.any_absent.ensures ∙ ap (some (absent_term? c.args.p.now (look c.args.h.now) (map (under (look c.args.k.now)) (formulas c.args.head.now)))) c.first_terms.ensures) ∙ c.if-any_absent.true))
 
 pub loop-i-preserved : goal.loop-i-preserved
 loop-i-preserved c =
     c.loop-i.invariant
     ∙ some_more (λ x. some (absent_term? c.args.p.now (look c.args.h.now) (map (under (look c.args.k.now)) (formulas c.args.head.now))) (formula_of x).terms) c.args.atoms.now c.loop-i.i _ (omega arith)
-    (sym (c.any-absent.ensures ∙ ap (some (absent_term? c.args.p.now (look c.args.h.now) (map (under (look c.args.k.now)) (formulas c.args.head.now)))) c.first-terms.ensures) ∙ c.if-any-absent.false)
+    (sym (c.any_absent.ensures ∙ ap (some (absent_term? c.args.p.now (look c.args.h.now) (map (under (look c.args.k.now)) (formulas c.args.head.now)))) c.first_terms.ensures) ∙ c.if-any_absent.false)
 
 pub returns : goal.returns
 returns c =

@@ -11,17 +11,17 @@ pub loop-i-init : goal.loop-i-init
 loop-i-init c =
     every_map formula_of (λ (x : Formula). every (agree_term? (look c.args.h.now) (look c.args.k.now)) x.terms) c.args.atoms.now
 
-pub returns-then-not-all-agreed : goal.returns-then-not-all-agreed
-returns-then-not-all-agreed c =
+pub returns-then-not-all_agreed : goal.returns-then-not-all_agreed
+returns-then-not-all_agreed c =
     sym (c.loop-i.invariant
     ∙ every_stop (λ x. every (agree_term? (look c.args.h.now) (look c.args.k.now)) (formula_of x).terms) c.args.atoms.now c.loop-i.i _ (omega arith)
-    (sym (c.all-agreed.ensures ∙ ap (every (agree_term? (look c.args.h.now) (look c.args.k.now))) c.first-terms.ensures) ∙ c.if-not-all-agreed.true))
+    (sym (c.all_agreed.ensures ∙ ap (every (agree_term? (look c.args.h.now) (look c.args.k.now))) c.first_terms.ensures) ∙ c.if-not-all_agreed.true))
 
 pub loop-i-preserved : goal.loop-i-preserved
 loop-i-preserved c =
     c.loop-i.invariant
     ∙ every_more (λ x. every (agree_term? (look c.args.h.now) (look c.args.k.now)) (formula_of x).terms) c.args.atoms.now c.loop-i.i _ (omega arith)
-    (sym (c.all-agreed.ensures ∙ ap (every (agree_term? (look c.args.h.now) (look c.args.k.now))) c.first-terms.ensures) ∙ c.if-not-all-agreed.false)
+    (sym (c.all_agreed.ensures ∙ ap (every (agree_term? (look c.args.h.now) (look c.args.k.now))) c.first_terms.ensures) ∙ c.if-not-all_agreed.false)
 
 pub returns : goal.returns
 returns c =

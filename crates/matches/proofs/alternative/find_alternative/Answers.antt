@@ -12,8 +12,8 @@ returns-in-Some c =
     let S = formulas c.args.list.now in
     spared_found (meaning r) (bounded r) h S c.args.spared c.in-Some.q
     (sparing_searched r h S c.body.result.now c.body.ensures.same c.head.result.now c.head.ensures.same
-    c.bound-slots-p.result c.bound-slots-p.ensures c.args.spared c.look-up-null.result _ c.look-up-null.ensures c.in-Some.ensures)
-    (c.is-existential.ensures.0 c.if-not-is-existential.false)
+    c.bound_slots-p.result c.bound_slots-p.ensures c.args.spared c.look_up-null.result _ c.look_up-null.ensures c.in-Some.ensures)
+    (c.is_existential.ensures.0 c.if-not-is_existential.false)
     (look c.fill.result) c.fill.ensures
 
 pub returns-in-None : goal.returns-in-None
@@ -23,4 +23,4 @@ returns-in-None c =
     let S = formulas c.args.list.now in
     spared_none (meaning r) (bounded r) h S c.args.spared
     (sparing_searched r h S c.body.result.now c.body.ensures.same c.head.result.now c.head.ensures.same
-    c.bound-slots-p.result c.bound-slots-p.ensures c.args.spared c.look-up-null.result _ c.look-up-null.ensures c.in-None.ensures)
+    c.bound_slots-p.result c.bound_slots-p.ensures c.args.spared c.look_up-null.result _ c.look_up-null.ensures c.in-None.ensures)

@@ -11,17 +11,17 @@ loop-i-init c =
     some-map (under (look c.args.k.now)) (λ (x : Formula). stands c.args.t x.terms) (formulas c.args.atoms.now)
     ∙ some-map formula_of (λ (x : Formula). stands c.args.t (under (look c.args.k.now) x).terms) c.args.atoms.now
 
-pub returns-then-stands-filled : goal.returns-then-stands-filled
-returns-then-stands-filled c =
+pub returns-then-stands_filled : goal.returns-then-stands_filled
+returns-then-stands_filled c =
     sym (c.loop-i.invariant
     ∙ some_stop (λ x. stands c.args.t (under (look c.args.k.now) (formula_of x)).terms) c.args.atoms.now c.loop-i.i _ (omega arith)
-    (sym c.stands-filled.ensures ∙ c.if-stands-filled.true))
+    (sym c.stands_filled.ensures ∙ c.if-stands_filled.true))
 
 pub loop-i-preserved : goal.loop-i-preserved
 loop-i-preserved c =
     c.loop-i.invariant
     ∙ some_more (λ x. stands c.args.t (under (look c.args.k.now) (formula_of x)).terms) c.args.atoms.now c.loop-i.i _ (omega arith)
-    (sym c.stands-filled.ensures ∙ c.if-stands-filled.false)
+    (sym c.stands_filled.ensures ∙ c.if-stands_filled.false)
 
 pub returns : goal.returns
 returns c =

@@ -8,19 +8,19 @@ use Rattle.matches.specs.Matching.{fact_atom?}
 use Rattle.matches.proofs.Literal.{decides_fact_atom}
 use Rattle.matches.proofs.facts.are_facts.Goals as goal
 
-pub returns-then-not-is-fact : goal.returns-then-not-is-fact
-returns-then-not-is-fact c =
+pub returns-then-not-is_fact : goal.returns-then-not-is_fact
+returns-then-not-is_fact c =
     Decides-at false (every fact_atom? c.args.list.now)
     (sym (c.loop-i.invariant
     ∙ every_stop fact_atom? c.args.list.now c.loop-i.i _ (omega arith)
-    (sym c.is-fact.ensures ∙ c.if-not-is-fact.true)))
+    (sym c.is_fact.ensures ∙ c.if-not-is_fact.true)))
     (decides_every fact_atom? FactAtom decides_fact_atom c.args.list.now)
 
 pub loop-i-preserved : goal.loop-i-preserved
 loop-i-preserved c =
     c.loop-i.invariant
     ∙ every_more fact_atom? c.args.list.now c.loop-i.i _ (omega arith)
-    (sym c.is-fact.ensures ∙ c.if-not-is-fact.false)
+    (sym c.is_fact.ensures ∙ c.if-not-is_fact.false)
 
 pub returns : goal.returns
 returns c =

@@ -8,17 +8,17 @@ pub loop-i-init : goal.loop-i-init
 loop-i-init c =
     some-map formula_of (alike (formula_of c.args.a.now)) c.args.list.now
 
-pub returns-then-same-atom : goal.returns-then-same-atom
-returns-then-same-atom c =
+pub returns-then-same_atom : goal.returns-then-same_atom
+returns-then-same_atom c =
     sym (c.loop-i.invariant
     ∙ some_stop (λ x. alike (formula_of c.args.a.now) (formula_of x)) c.args.list.now c.loop-i.i _ (omega arith)
-    (sym c.same-atom.ensures ∙ c.if-same-atom.true))
+    (sym c.same_atom.ensures ∙ c.if-same_atom.true))
 
 pub loop-i-preserved : goal.loop-i-preserved
 loop-i-preserved c =
     c.loop-i.invariant
     ∙ some_more (λ x. alike (formula_of c.args.a.now) (formula_of x)) c.args.list.now c.loop-i.i _ (omega arith)
-    (sym c.same-atom.ensures ∙ c.if-same-atom.false)
+    (sym c.same_atom.ensures ∙ c.if-same_atom.false)
 
 pub returns : goal.returns
 returns c =

@@ -8,17 +8,17 @@ pub loop-i-init : goal.loop-i-init
 loop-i-init c =
     some-map formula_of (λ (x : Formula). stands c.args.t x.terms) c.args.list.now
 
-pub returns-then-is-among : goal.returns-then-is-among
-returns-then-is-among c =
+pub returns-then-is_among : goal.returns-then-is_among
+returns-then-is_among c =
     sym (c.loop-i.invariant
     ∙ some_stop (λ x. stands c.args.t (formula_of x).terms) c.args.list.now c.loop-i.i _ (omega arith)
-    (sym (c.is-among.ensures ∙ ap (stands c.args.t) c.first-terms.ensures) ∙ c.if-is-among.true))
+    (sym (c.is_among.ensures ∙ ap (stands c.args.t) c.first_terms.ensures) ∙ c.if-is_among.true))
 
 pub loop-i-preserved : goal.loop-i-preserved
 loop-i-preserved c =
     c.loop-i.invariant
     ∙ some_more (λ x. stands c.args.t (formula_of x).terms) c.args.list.now c.loop-i.i _ (omega arith)
-    (sym (c.is-among.ensures ∙ ap (stands c.args.t) c.first-terms.ensures) ∙ c.if-is-among.false)
+    (sym (c.is_among.ensures ∙ ap (stands c.args.t) c.first_terms.ensures) ∙ c.if-is_among.false)
 
 pub returns : goal.returns
 returns c =

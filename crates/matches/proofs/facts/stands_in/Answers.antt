@@ -5,4 +5,4 @@ use Rattle.matches.proofs.Basics.{decides_stands_in}
 use Rattle.matches.proofs.facts.stands_in.Goals as goal
 
 pub returns : goal.returns
-returns c = Decides-at c.is-in.result (stands_in c.args.t (formulas c.args.list.now)) c.is-in.ensures (decides_stands_in c.args.t (formulas c.args.list.now))
+returns c = Decides-at c.is_in.result (stands_in c.args.t (formulas c.args.list.now)) c.is_in.ensures (decides_stands_in c.args.t (formulas c.args.list.now))

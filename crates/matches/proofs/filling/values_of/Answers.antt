@@ -7,5 +7,5 @@ use Rattle.matches.proofs.filling.values_of.Goals as goal
 
 pub returns : goal.returns
 returns c =
-    cons_path c.value-of.ensures (cons_path c.value-of-2.ensures (cons_path c.value-of-3.ensures (cons_path c.value-of-4.ensures refl)))
+    cons_path c.value_of.ensures (cons_path c.value_of-2.ensures (cons_path c.value_of-3.ensures (cons_path c.value_of-4.ensures refl)))
     ∙ four (value (look c.args.h.now)) c.args.terms.now _ _ _ _ c.told-terms

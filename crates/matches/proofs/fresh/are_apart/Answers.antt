@@ -11,17 +11,17 @@ pub loop-i-init : goal.loop-i-init
 loop-i-init c =
     every_map formula_of (λ (x : Formula). every (apart? c.args.p.now (look c.args.h.now) c.args.v) x.terms) c.args.atoms.now
 
-pub returns-then-not-all-apart : goal.returns-then-not-all-apart
-returns-then-not-all-apart c =
+pub returns-then-not-all_apart : goal.returns-then-not-all_apart
+returns-then-not-all_apart c =
     sym (c.loop-i.invariant
     ∙ every_stop (λ x. every (apart? c.args.p.now (look c.args.h.now) c.args.v) (formula_of x).terms) c.args.atoms.now c.loop-i.i _ (omega arith)
-    (sym (c.all-apart.ensures ∙ ap (every (apart? c.args.p.now (look c.args.h.now) c.args.v)) c.first-terms.ensures) ∙ c.if-not-all-apart.true))
+    (sym (c.all_apart.ensures ∙ ap (every (apart? c.args.p.now (look c.args.h.now) c.args.v)) c.first_terms.ensures) ∙ c.if-not-all_apart.true))
 
 pub loop-i-preserved : goal.loop-i-preserved
 loop-i-preserved c =
     c.loop-i.invariant
     ∙ every_more (λ x. every (apart? c.args.p.now (look c.args.h.now) c.args.v) (formula_of x).terms) c.args.atoms.now c.loop-i.i _ (omega arith)
-    (sym (c.all-apart.ensures ∙ ap (every (apart? c.args.p.now (look c.args.h.now) c.args.v)) c.first-terms.ensures) ∙ c.if-not-all-apart.false)
+    (sym (c.all_apart.ensures ∙ ap (every (apart? c.args.p.now (look c.args.h.now) c.args.v)) c.first_terms.ensures) ∙ c.if-not-all_apart.false)
 
 pub returns : goal.returns
 returns c =

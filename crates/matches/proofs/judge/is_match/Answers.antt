@@ -5,4 +5,4 @@ use Rattle.matches.proofs.judge.is_match.Goals as goal
 pub returns : goal.returns
 returns c =
     match_judged c.args.rule.now (look c.args.h.now) (formulas c.args.list.now) c.body.result.now c.body.ensures.same
-    c.are-held.result c.are-held.ensures
+    c.are_held.result c.are_held.ensures

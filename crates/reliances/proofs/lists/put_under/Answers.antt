@@ -8,8 +8,8 @@ loop-i-init c = put_start c.args.into.now c.args.at
 
 pub loop-i-preserved : goal.loop-i-preserved
 loop-i-preserved c =
-    under_more (under_atom (look c.args.h.now)) c.args.into.now c.loop-i.into c.args.atoms.now c.args.at c.loop-i.i _ c.atom-under.result
-    (omega arith) (omega arith) c.atom-under.ensures.whole c.loop-i.invariant
+    under_more (under_atom (look c.args.h.now)) c.args.into.now c.loop-i.into c.args.atoms.now c.args.at c.loop-i.i _ c.atom_under.result
+    (omega arith) (omega arith) c.atom_under.ensures.whole c.loop-i.invariant
 
 pub returns : goal.returns
 returns c =

@@ -10,15 +10,15 @@ use Rattle.reliances.proofs.lists.share_predicate.Goals as goal
 pub loop-i-init : goal.loop-i-init
 loop-i-init c = some-map formula_of (λ (b : Formula). some (of? b.predicate) (formulas c.args.heads.now)) c.args.list.now
 
-pub returns-then-any-of : goal.returns-then-any-of
-returns-then-any-of c =
+pub returns-then-any_of : goal.returns-then-any_of
+returns-then-any_of c =
     sym (c.loop-i.invariant ∙ some_stop (λ (x : Atom). some (of? (formula_of x).predicate) (formulas c.args.heads.now)) c.args.list.now c.loop-i.i _ (omega arith)
-    (sym c.any-of.ensures ∙ c.if-any-of.true))
+    (sym c.any_of.ensures ∙ c.if-any_of.true))
 
 pub loop-i-preserved : goal.loop-i-preserved
 loop-i-preserved c =
     c.loop-i.invariant ∙ some_more (λ (x : Atom). some (of? (formula_of x).predicate) (formulas c.args.heads.now)) c.args.list.now c.loop-i.i _ (omega arith)
-    (sym c.any-of.ensures ∙ c.if-any-of.false)
+    (sym c.any_of.ensures ∙ c.if-any_of.false)
 
 pub returns : goal.returns
 returns c =

@@ -6,60 +6,60 @@ use Rattle.reliances.proofs.Sizes.{head_few}
 use Rattle.reliances.proofs.RelianceNodes.{listed_part, resulted, rigid_shut, first_shut, new_shut, open_decided}
 use Rattle.reliances.proofs.reliance_search.is_open.Goals as goal
 
-pub returns-then-has-rigid : goal.returns-then-has-rigid
-returns-then-has-rigid c =
+pub returns-then-has_rigid : goal.returns-then-has_rigid
+returns-then-has_rigid c =
     let A = c.args.a.now in
-    let n = c.put-candidate-n.result in
-    let all = c.put-candidate-n.new.into in
-    decides_false (rigid_shut A c.args.b.now c.args.rigid.now c.args.sigma.now c.args.old.now c.first-slots-first.result.now c.second-slots-second.result.now
-    (formulas (take (n - 0) all)) c.first-slots-first.ensures c.second-slots-second.ensures
-    (listed_part A c.args.b.now c.args.rigid.now c.args.sigma.now c.args.old.now n all c.put-candidate-n.ensures.1)
-    (c.if-has-rigid.ensures.0 refl))
+    let n = c.put_candidate-n.result in
+    let all = c.put_candidate-n.new.into in
+    decides_false (rigid_shut A c.args.b.now c.args.rigid.now c.args.sigma.now c.args.old.now c.first_slots-first.result.now c.second_slots-second.result.now
+    (formulas (take (n - 0) all)) c.first_slots-first.ensures c.second_slots-second.ensures
+    (listed_part A c.args.b.now c.args.rigid.now c.args.sigma.now c.args.old.now n all c.put_candidate-n.ensures.1)
+    (c.if-has_rigid.ensures.0 refl))
 
-pub returns-then-is-satisfied : goal.returns-then-is-satisfied
-returns-then-is-satisfied c =
+pub returns-then-is_satisfied : goal.returns-then-is_satisfied
+returns-then-is_satisfied c =
     let A = c.args.a.now in
-    let n = c.put-candidate-n.result in
-    let all = c.put-candidate-n.new.into in
-    decides_false (first_shut A c.args.b.now c.args.rigid.now c.args.sigma.now c.args.old.now c.first-slots-first.result.now c.second-slots-second.result.now
-    (formulas (take (n - 0) all)) c.first-slots-first.ensures c.second-slots-second.ensures
-    (listed_part A c.args.b.now c.args.rigid.now c.args.sigma.now c.args.old.now n all c.put-candidate-n.ensures.1)
-    (c.if-is-satisfied.ensures.0 refl))
+    let n = c.put_candidate-n.result in
+    let all = c.put_candidate-n.new.into in
+    decides_false (first_shut A c.args.b.now c.args.rigid.now c.args.sigma.now c.args.old.now c.first_slots-first.result.now c.second_slots-second.result.now
+    (formulas (take (n - 0) all)) c.first_slots-first.ensures c.second_slots-second.ensures
+    (listed_part A c.args.b.now c.args.rigid.now c.args.sigma.now c.args.old.now n all c.put_candidate-n.ensures.1)
+    (c.if-is_satisfied.ensures.0 refl))
 
-pub returns-then-is-match : goal.returns-then-is-match
-returns-then-is-match c =
+pub returns-then-is_match : goal.returns-then-is_match
+returns-then-is_match c =
     let A = c.args.a.now in
-    let n = c.put-candidate-n.result in
-    let all = c.put-candidate-n.new.into in
-    decides_false (new_shut A c.args.b.now c.args.rigid.now c.args.sigma.now c.args.old.now c.first-slots-first.result.now c.second-slots-second.result.now
-    (formulas (take (n - 0) all)) c.first-slots-first.ensures c.second-slots-second.ensures
-    (listed_part A c.args.b.now c.args.rigid.now c.args.sigma.now c.args.old.now n all c.put-candidate-n.ensures.1)
-    (c.if-is-match.ensures.0 refl))
+    let n = c.put_candidate-n.result in
+    let all = c.put_candidate-n.new.into in
+    decides_false (new_shut A c.args.b.now c.args.rigid.now c.args.sigma.now c.args.old.now c.first_slots-first.result.now c.second_slots-second.result.now
+    (formulas (take (n - 0) all)) c.first_slots-first.ensures c.second_slots-second.ensures
+    (listed_part A c.args.b.now c.args.rigid.now c.args.sigma.now c.args.old.now n all c.put_candidate-n.ensures.1)
+    (c.if-is_match.ensures.0 refl))
 
-pub put-under-requires : goal.put-under-requires
-put-under-requires c =
+pub put_under-requires : goal.put_under-requires
+put_under-requires c =
     let l = head_few c.args.a.now.parts c.head-head.result.now c.head-head.ensures.kept c.head-head.ensures.same in
-    omega (arith, l, c.put-candidate-n.ensures.0)
+    omega (arith, l, c.put_candidate-n.ensures.0)
 
-pub slice-bounds-is-satisfied-end-2 : goal.slice-bounds-is-satisfied-end-2
-slice-bounds-is-satisfied-end-2 c =
+pub slice-bounds-is_satisfied-end-2 : goal.slice-bounds-is_satisfied-end-2
+slice-bounds-is_satisfied-end-2 c =
     let l = head_few c.args.a.now.parts c.head-head.result.now c.head-head.ensures.kept c.head-head.ensures.same in
-    omega (arith, l, c.put-candidate-n.ensures.0)
+    omega (arith, l, c.put_candidate-n.ensures.0)
 
 pub returns : goal.returns
 returns c =
     let A = c.args.a.now in
-    let n = c.put-candidate-n.result in
-    let all = c.put-candidate-n.new.into in
+    let n = c.put_candidate-n.result in
+    let all = c.put_candidate-n.new.into in
     let head = c.head-head.result.now in
-    let after = c.put-under.new.into in
-    open_decided A c.args.b.now c.args.rigid.now c.args.sigma.now c.args.old.now c.first-slots-first.result.now c.second-slots-second.result.now
-    (formulas (take (n - 0) all)) c.first-slots-first.ensures c.second-slots-second.ensures
-    (listed_part A c.args.b.now c.args.rigid.now c.args.sigma.now c.args.old.now n all c.put-candidate-n.ensures.1)
+    let after = c.put_under.new.into in
+    open_decided A c.args.b.now c.args.rigid.now c.args.sigma.now c.args.old.now c.first_slots-first.result.now c.second_slots-second.result.now
+    (formulas (take (n - 0) all)) c.first_slots-first.ensures c.second_slots-second.ensures
+    (listed_part A c.args.b.now c.args.rigid.now c.args.sigma.now c.args.old.now n all c.put_candidate-n.ensures.1)
     (formulas (take (n + length head - 0) after))
-    (resulted A c.args.b.now c.args.rigid.now c.args.sigma.now c.args.old.now n all after head c.first-slots-first.result.now c.put-candidate-n.ensures.1 c.head-head.ensures.same c.first-slots-first.ensures
-    c.put-under.ensures)
-    (not_from_Decides c.has-rigid.result c.has-rigid.ensures c.if-has-rigid.false)
-    (not_from_Decides c.is-satisfied.result c.is-satisfied.ensures c.if-is-satisfied.false)
-    (not_from_Decides c.is-match.result c.is-match.ensures c.if-is-match.false)
-    c.is-satisfied-2.result c.is-satisfied-2.ensures
+    (resulted A c.args.b.now c.args.rigid.now c.args.sigma.now c.args.old.now n all after head c.first_slots-first.result.now c.put_candidate-n.ensures.1 c.head-head.ensures.same c.first_slots-first.ensures
+    c.put_under.ensures)
+    (not_from_Decides c.has_rigid.result c.has_rigid.ensures c.if-has_rigid.false)
+    (not_from_Decides c.is_satisfied.result c.is_satisfied.ensures c.if-is_satisfied.false)
+    (not_from_Decides c.is_match.result c.is_match.ensures c.if-is_match.false)
+    c.is_satisfied-2.result c.is_satisfied-2.ensures

@@ -5,14 +5,14 @@ use Rattle.matches.specs.Matching.{same, stands}
 use Rattle.matches.proofs.Basics.{decides_stands}
 use Rattle.reliances.proofs.restraint_search.is_slot.Goals as goal
 
-pub returns-then-is-same : goal.returns-then-is-same
-returns-then-is-same c =
+pub returns-then-is_same : goal.returns-then-is_same
+returns-then-is_same c =
     Decides-at _ (stands c.args.t c.args.slots.now)
-    (sym (c.loop-i.invariant ∙ some_stop (same c.args.t) c.args.slots.now c.loop-i.i _ (omega arith) (sym c.is-same.ensures ∙ c.if-is-same.true)))
+    (sym (c.loop-i.invariant ∙ some_stop (same c.args.t) c.args.slots.now c.loop-i.i _ (omega arith) (sym c.is_same.ensures ∙ c.if-is_same.true)))
     (decides_stands c.args.t c.args.slots.now)
 
 pub loop-i-preserved : goal.loop-i-preserved
-loop-i-preserved c = c.loop-i.invariant ∙ some_more (same c.args.t) c.args.slots.now c.loop-i.i _ (omega arith) (sym c.is-same.ensures ∙ c.if-is-same.false)
+loop-i-preserved c = c.loop-i.invariant ∙ some_more (same c.args.t) c.args.slots.now c.loop-i.i _ (omega arith) (sym c.is_same.ensures ∙ c.if-is_same.false)
 
 pub returns : goal.returns
 returns c =

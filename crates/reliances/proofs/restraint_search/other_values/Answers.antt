@@ -15,12 +15,12 @@ loop-v-init c = (refl, λ v l. absurd (omega arith))
 pub loop-v-preserved : goal.loop-v-preserved
 loop-v-preserved c =
     let v = c.loop-v.v in
-    let x = c.slot-value.result in
+    let x = c.slot_value.result in
     let r = c.loop-v.r in (
       length-set r v x ∙ c.loop-v.invariant.0,
       below_more (λ w. look (set r v x) w ≡ value (through c.args.sigma.now 12) (shift_by c.args.rigid.now (Variable w))) v
           (λ w l. let ne : w ≢ v = omega arith in get_or-set_other r v w x (Constant 0) ne ∙ c.loop-v.invariant.1 w l)
-          (get_or-set_same r v x (Constant 0) (let l = c.loop-v.invariant.0 in omega arith) ∙ c.slot-value.ensures ∙ ap (value (through c.args.sigma.now 12)) c.shift-term.ensures),
+          (get_or-set_same r v x (Constant 0) (let l = c.loop-v.invariant.0 in omega arith) ∙ c.slot_value.ensures ∙ ap (value (through c.args.sigma.now 12)) c.shift_term.ensures),
     )
 
 pub returns : goal.returns

@@ -8,7 +8,7 @@ loop-i-init c = put_start c.args.into.now c.args.at
 
 pub loop-i-preserved : goal.loop-i-preserved
 loop-i-preserved c =
-    under_more (shift_atom c.args.rigid.now) c.args.into.now c.loop-i.into c.args.atoms.now c.args.at c.loop-i.i _ c.shift-atom.result (omega arith) (omega arith) c.shift-atom.ensures c.loop-i.invariant
+    under_more (shift_atom c.args.rigid.now) c.args.into.now c.loop-i.into c.args.atoms.now c.args.at c.loop-i.i _ c.shift_atom.result (omega arith) (omega arith) c.shift_atom.ensures c.loop-i.invariant
 
 pub returns : goal.returns
 returns c =

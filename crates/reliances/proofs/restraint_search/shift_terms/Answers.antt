@@ -6,5 +6,5 @@ use Rattle.reliances.proofs.restraint_search.shift_terms.Goals as goal
 
 pub returns : goal.returns
 returns c =
-    cons_path c.shift-term.ensures (cons_path c.shift-term-2.ensures (cons_path c.shift-term-3.ensures (cons_path c.shift-term-4.ensures refl)))
+    cons_path c.shift_term.ensures (cons_path c.shift_term-2.ensures (cons_path c.shift_term-3.ensures (cons_path c.shift_term-4.ensures refl)))
     ∙ four (shift_by c.args.rigid.now) c.args.terms.now _ _ _ _ c.told-terms

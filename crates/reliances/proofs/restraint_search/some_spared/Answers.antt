@@ -7,15 +7,15 @@ use Rattle.rules.proofs.Membership.{decides_false}
 use Rattle.matches.specs.Lists.{formulas}
 use Rattle.reliances.specs.Unification.{flags}
 use Rattle.reliances.proofs.Nodes.{below_more, flag_below}
-use Rattle.reliances.proofs.restraint_search.some_spared.Goals.{then-rigid-r+else-not-stands-in, else-rigid-r}
+use Rattle.reliances.proofs.restraint_search.some_spared.Goals.{then-rigid-r+else-not-stands_in, else-rigid-r}
 use Rattle.reliances.proofs.restraint_search.some_spared.Goals as goal
 
 pub loop-r-init : goal.loop-r-init
 loop-r-init c = λ k l m. absurd (omega arith)
 
-pub returns-then-not-stands-in : goal.returns-then-not-stands-in
-returns-then-not-stands-in c =
-    ((λ e. (c.loop-r.r, omega arith, c.if-rigid-r.true, not_from_Decides c.stands-in.result c.stands-in.ensures c.if-not-stands-in.true)), λ e. refl)
+pub returns-then-not-stands_in : goal.returns-then-not-stands_in
+returns-then-not-stands_in c =
+    ((λ e. (c.loop-r.r, omega arith, c.if-rigid-r.true, not_from_Decides c.stands_in.result c.stands_in.ensures c.if-not-stands_in.true)), λ e. refl)
 
 pub loop-r-preserved : goal.loop-r-preserved
 loop-r-preserved c = λ k l m.
@@ -24,7 +24,7 @@ loop-r-preserved c = λ k l m.
     here : 12 ≤ c.loop-r.r → flags c.args.rigid.now c.loop-r.r ≡ true → Stands (Null c.loop-r.r) (formulas c.args.list.now)
     here =
         elim c.if-rigid-r.branch [
-          | then-rigid-r+else-not-stands-in w ↦ λ q e. w.stands-in.ensures.0 w.if-not-stands-in.false
+          | then-rigid-r+else-not-stands_in w ↦ λ q e. w.stands_in.ensures.0 w.if-not-stands_in.false
           | else-rigid-r w ↦ λ q e. absurd (false≢true (sym w.if-rigid-r.false ∙ e))
         ]
 

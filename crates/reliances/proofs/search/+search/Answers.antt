@@ -10,7 +10,7 @@ use Rattle.matches.proofs.Basics.{nil-cons, heads_same}
 use Rattle.reliances.proofs.Nodes.{no_atom, each_taken, pushed}
 use Rattle.reliances.proofs.Unifying.{formulas_apart}
 use Rattle.reliances.proofs.SearchSteps.{NotJoined, next_old, next_new, next_in, searched_old}
-use Rattle.reliances.proofs.search.+search.Goals.{then-unify-atoms+else-search, else-unify-atoms}
+use Rattle.reliances.proofs.search.+search.Goals.{then-unify_atoms+else-search, else-unify_atoms}
 use Rattle.reliances.proofs.search.+search.Goals as goal
 
 pub finish-requires : goal.finish-requires
@@ -27,17 +27,17 @@ returns-then-rest-eq0 t c =
     subst (λ m. Searched c.finish.result c.args.kind c.args.a.now c.args.b.now c.args.rigid.now c.args.sigma.now (take m c.args.old.now) c.args.sheet.now c.finish.new.sheet)
     (let e : c.args.n - 0 ≡ c.args.n = omega arith in e) c.finish.ensures
 
-pub is-shut-requires : goal.is-shut-requires
-is-shut-requires t c = (
+pub is_shut-requires : goal.is_shut-requires
+is_shut-requires t c = (
   c.requires.1.0,
   subst (λ z. Node (meaning c.args.a.now).head (gone c.args.kind (meaning c.args.b.now)) c.args.rigid.now c.args.sigma.now z c.args.rest.now)
       (ap (λ m. take m c.args.old.now) (let e : c.args.n ≡ c.args.n - 0 = omega arith in e)) c.requires.1.1,
 )
 
-pub returns-then-is-shut : goal.returns-then-is-shut
-returns-then-is-shut t c = (
+pub returns-then-is_shut : goal.returns-then-is_shut
+returns-then-is_shut t c = (
   subst (λ m. Deserted c.args.kind c.args.a.now c.args.b.now c.args.rigid.now c.args.sigma.now (take m c.args.old.now))
-      (let e : c.args.n - 0 ≡ c.args.n = omega arith in e) (c.is-shut.ensures c.if-is-shut.true),
+      (let e : c.args.n - 0 ≡ c.args.n = omega arith in e) (c.is_shut.ensures c.if-is_shut.true),
   refl,
 )
 
@@ -62,9 +62,9 @@ search-requires t c =
         simp (length-take, length-drop) (omega arith),
         (
           c.requires.1.0,
-          subst (Node (meaning A).head (gone c.args.kind (meaning B)) c.args.rigid.now c.unify-atoms.new.sigma (take c.args.n c.args.old.now)) (sym (take_rest c.args.rest.now 1))
+          subst (Node (meaning A).head (gone c.args.kind (meaning B)) c.args.rigid.now c.unify_atoms.new.sigma (take c.args.n c.args.old.now)) (sym (take_rest c.args.rest.now 1))
               (next_new c.args.kind A B c.args.rigid.now c.requires.1.0 c.args.sigma.now c.args.old.now c.args.rest.now c.args.n (omega arith) c.requires.1.1
-              c.unify-atoms.new.sigma c.head-heads.result.now c.loop-i.i c.head-heads.ensures.same (omega arith) c.if-unify-atoms.ensures),
+              c.unify_atoms.new.sigma c.head-heads.result.now c.loop-i.i c.head-heads.ensures.same (omega arith) c.if-unify_atoms.ensures),
         ),
       ),
     )
@@ -77,16 +77,16 @@ loop-i-preserved t c =
     let b = get_or c.args.rest.now 0 no_atom in
     let old = take c.args.n c.args.old.now in
     let joined = NotJoined c.args.kind A B c.args.rigid.now c.args.sigma.now old b in
-    elim c.if-unify-atoms.branch [
-      | then-unify-atoms+else-search w ↦
+    elim c.if-unify_atoms.branch [
+      | then-unify_atoms+else-search w ↦
           let q = w.if-search.ensures in (
             w.sheet-is ∙ q.1 ∙ c.loop-i.invariant.0,
             each_taken joined c.head-heads.result.now c.loop-i.i no_atom (omega arith) c.loop-i.invariant.1
-                (λ τ e f. q.0 (subst (λ z. Follows c.args.kind (meaning A) (meaning B) (flags c.args.rigid.now) z (formulas old)) (heads_same (sym e ∙ w.if-unify-atoms.ensures)) f)),
+                (λ τ e f. q.0 (subst (λ z. Follows c.args.kind (meaning A) (meaning B) (flags c.args.rigid.now) z (formulas old)) (heads_same (sym e ∙ w.if-unify_atoms.ensures)) f)),
           )
-      | else-unify-atoms w ↦ (
+      | else-unify_atoms w ↦ (
         w.sheet-is ∙ c.loop-i.invariant.0,
-        each_taken joined c.head-heads.result.now c.loop-i.i no_atom (omega arith) c.loop-i.invariant.1 (λ τ e. absurd (nil-cons (sym w.if-unify-atoms.ensures ∙ e))),
+        each_taken joined c.head-heads.result.now c.loop-i.i no_atom (omega arith) c.loop-i.invariant.1 (λ τ e. absurd (nil-cons (sym w.if-unify_atoms.ensures ∙ e))),
       )
     ]
 

@@ -11,17 +11,17 @@ use Rattle.reliances.proofs.substitution.has_rigid.Goals as goal
 pub loop-i-init : goal.loop-i-init
 loop-i-init c = some-map formula_of (λ (a : Formula). any_rigid? (flags c.args.rigid.now) a.terms) c.args.list.now
 
-pub returns-then-any-rigid : goal.returns-then-any-rigid
-returns-then-any-rigid c =
+pub returns-then-any_rigid : goal.returns-then-any_rigid
+returns-then-any_rigid c =
     Decides-at _ (has_rigid? (flags c.args.rigid.now) (formulas c.args.list.now))
     (sym (c.loop-i.invariant ∙ some_stop (λ (x : Atom). any_rigid? (flags c.args.rigid.now) (formula_of x).terms) c.args.list.now c.loop-i.i _ (omega arith)
-    (sym (c.any-rigid.ensures ∙ ap (any_rigid? (flags c.args.rigid.now)) c.first-terms.ensures) ∙ c.if-any-rigid.true)))
+    (sym (c.any_rigid.ensures ∙ ap (any_rigid? (flags c.args.rigid.now)) c.first_terms.ensures) ∙ c.if-any_rigid.true)))
     (decides_has_rigid (flags c.args.rigid.now) (formulas c.args.list.now))
 
 pub loop-i-preserved : goal.loop-i-preserved
 loop-i-preserved c =
     c.loop-i.invariant ∙ some_more (λ (x : Atom). any_rigid? (flags c.args.rigid.now) (formula_of x).terms) c.args.list.now c.loop-i.i _ (omega arith)
-    (sym (c.any-rigid.ensures ∙ ap (any_rigid? (flags c.args.rigid.now)) c.first-terms.ensures) ∙ c.if-any-rigid.false)
+    (sym (c.any_rigid.ensures ∙ ap (any_rigid? (flags c.args.rigid.now)) c.first_terms.ensures) ∙ c.if-any_rigid.false)
 
 pub returns : goal.returns
 returns c =

@@ -9,7 +9,7 @@ loop-i-preserved c =
     let xs = c.args.atoms.now in
     c.loop-i.invariant ∙ ap (λ z. mark_all c.args.mark c.args.from (formulas z) c.loop-i.rigid) (drop_more xs c.loop-i.i _ (omega arith))
     ∙ ap (mark_all c.args.mark c.args.from (formulas (drop (c.loop-i.i + 1) xs)))
-    (sym (c.mark-terms.ensures ∙ ap (λ z. mark_terms c.args.mark c.args.from z c.loop-i.rigid) c.first-terms.ensures))
+    (sym (c.mark_terms.ensures ∙ ap (λ z. mark_terms c.args.mark c.args.from z c.loop-i.rigid) c.first_terms.ensures))
 
 pub returns : goal.returns
 returns c =

@@ -7,7 +7,7 @@ pub loop-i-preserved : goal.loop-i-preserved
 loop-i-preserved c =
     let ts = c.args.terms.now in
     c.loop-i.invariant ∙ ap (λ z. mark_terms c.args.mark c.args.from z c.loop-i.rigid) (drop_more ts c.loop-i.i _ (omega arith))
-    ∙ ap (mark_terms c.args.mark c.args.from (drop (c.loop-i.i + 1) ts)) (sym c.mark-term.ensures)
+    ∙ ap (mark_terms c.args.mark c.args.from (drop (c.loop-i.i + 1) ts)) (sym c.mark_term.ensures)
 
 pub returns : goal.returns
 returns c =

@@ -8,5 +8,5 @@ use Rattle.reliances.proofs.substitution.rigid_first.Goals as goal
 pub returns : goal.returns
 returns c =
     subst (λ z. FlagsAre z (rigid? (meaning c.args.a.now)))
-    (sym (marked_twice 0 c.args.a.now _ c.head.ensures.same c.body.ensures.same c.mark-atoms.ensures c.mark-atoms-2.ensures))
+    (sym (marked_twice 0 c.args.a.now _ c.head.ensures.same c.body.ensures.same c.mark_atoms.ensures c.mark_atoms-2.ensures))
     (first_flags (meaning c.args.a.now) (bounded c.args.a.now))

@@ -10,6 +10,6 @@ returns c =
     let A = c.args.a.now in
     let B = c.args.b.now in
     subst (λ z. FlagsAre z (rigid_both (meaning A) (meaning B)))
-    (sym (marked_twice 12 B _ c.head-2.ensures.same c.body-2.ensures.same c.mark-atoms-3.ensures c.mark-atoms-4.ensures
-    ∙ ap (marked 12 (meaning B)) (marked_twice 0 A _ c.head.ensures.same c.body.ensures.same c.mark-atoms.ensures c.mark-atoms-2.ensures)))
+    (sym (marked_twice 12 B _ c.head-2.ensures.same c.body-2.ensures.same c.mark_atoms-3.ensures c.mark_atoms-4.ensures
+    ∙ ap (marked 12 (meaning B)) (marked_twice 0 A _ c.head.ensures.same c.body.ensures.same c.mark_atoms.ensures c.mark_atoms-2.ensures)))
     (both_flags (meaning A) (meaning B) (bounded A) (bounded B))

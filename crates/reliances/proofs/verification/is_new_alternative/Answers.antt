@@ -8,39 +8,39 @@ use Rattle.reliances.proofs.Sizes.{head_few}
 use Rattle.reliances.proofs.Verified.{put_result, from_start, restraint_decided, not_applied, too_early}
 use Rattle.reliances.proofs.verification.is_new_alternative.Goals as goal
 
-pub returns-then-not-is-applied-2 : goal.returns-then-not-is-applied-2
-returns-then-not-is-applied-2 c =
+pub returns-then-not-is_applied-2 : goal.returns-then-not-is_applied-2
+returns-then-not-is_applied-2 c =
     let B = c.args.b.now in
     let F = formulas c.args.before.now in
     let M = formulas c.args.more.now in
     let h = look c.args.h.now in
-    let n = c.put-later-n.result in
-    let all = c.put-later-n.new.into in
+    let n = c.put_later-n.result in
+    let all = c.put_later-n.new.into in
     decides_false (not_applied c.args.a.now B F M (look c.args.f.now) h (look c.args.k.now)
-    (formulas (take (n - 0) all)) (from_start n all (result (meaning B) h F ++ M) c.put-later-n.ensures.1)
-    (not_from_Decides c.is-applied-2.result c.is-applied-2.ensures c.if-not-is-applied-2.true))
+    (formulas (take (n - 0) all)) (from_start n all (result (meaning B) h F ++ M) c.put_later-n.ensures.1)
+    (not_from_Decides c.is_applied-2.result c.is_applied-2.ensures c.if-not-is_applied-2.true))
 
-pub returns-then-has-alternative : goal.returns-then-has-alternative
-returns-then-has-alternative c =
+pub returns-then-has_alternative : goal.returns-then-has_alternative
+returns-then-has_alternative c =
     let B = c.args.b.now in
     let F = formulas c.args.before.now in
     let M = formulas c.args.more.now in
     let h = look c.args.h.now in
-    let n = c.put-later-n.result in
-    let all = c.put-later-n.new.into in
+    let n = c.put_later-n.result in
+    let all = c.put_later-n.new.into in
     decides_false (too_early c.args.a.now B F M (look c.args.f.now) h (look c.args.k.now)
-    (formulas (take (n - 0) all)) (from_start n all (result (meaning B) h F ++ M) c.put-later-n.ensures.1)
-    (c.has-alternative.ensures.0 c.if-has-alternative.true))
+    (formulas (take (n - 0) all)) (from_start n all (result (meaning B) h F ++ M) c.put_later-n.ensures.1)
+    (c.has_alternative.ensures.0 c.if-has_alternative.true))
 
-pub put-under-requires : goal.put-under-requires
-put-under-requires c =
+pub put_under-requires : goal.put_under-requires
+put_under-requires c =
     let l = head_few c.args.a.now.parts c.head-head.result.now c.head-head.ensures.kept c.head-head.ensures.same in
-    omega (arith, l, c.put-later-n.ensures.0)
+    omega (arith, l, c.put_later-n.ensures.0)
 
-pub slice-bounds-is-alternative-end : goal.slice-bounds-is-alternative-end
-slice-bounds-is-alternative-end c =
+pub slice-bounds-is_alternative-end : goal.slice-bounds-is_alternative-end
+slice-bounds-is_alternative-end c =
     let l = head_few c.args.a.now.parts c.head-head.result.now c.head-head.ensures.kept c.head-head.ensures.same in
-    omega (arith, l, c.put-later-n.ensures.0)
+    omega (arith, l, c.put_later-n.ensures.0)
 
 pub returns : goal.returns
 returns c =
@@ -51,16 +51,16 @@ returns c =
     let f = look c.args.f.now in
     let h = look c.args.h.now in
     let H = result (meaning B) h F ++ M in
-    let n = c.put-later-n.result in
-    let all = c.put-later-n.new.into in
+    let n = c.put_later-n.result in
+    let all = c.put_later-n.new.into in
     let head = c.head-head.result.now in
-    let after = c.put-under.new.into in
+    let after = c.put_under.new.into in
     restraint_decided A B F M f h (look c.args.k.now) c.requires.1.1.0 c.requires.1.1.1
     (formulas (take (n - 0) all)) (formulas (take (n + length head - 0) after))
-    (from_start n all H c.put-later-n.ensures.1)
+    (from_start n all H c.put_later-n.ensures.1)
     (from_start (n + length head) after (result (meaning A) f H)
-    (put_result A f H n all after head c.put-later-n.ensures.1 c.head-head.ensures.same c.put-under.ensures))
-    (c.is-applied.ensures.0 c.if-not-is-applied.false)
-    (c.is-applied-2.ensures.0 c.if-not-is-applied-2.false)
-    (not_from_Decides c.has-alternative.result c.has-alternative.ensures c.if-has-alternative.false)
-    c.is-alternative.result c.is-alternative.ensures
+    (put_result A f H n all after head c.put_later-n.ensures.1 c.head-head.ensures.same c.put_under.ensures))
+    (c.is_applied.ensures.0 c.if-not-is_applied.false)
+    (c.is_applied-2.ensures.0 c.if-not-is_applied-2.false)
+    (not_from_Decides c.has_alternative.result c.has_alternative.ensures c.if-has_alternative.false)
+    c.is_alternative.result c.is_alternative.ensures

@@ -3,5 +3,5 @@ use Rattle.reliances.proofs.verification.is_unsatisfied.Goals as goal
 
 pub returns : goal.returns
 returns c =
-    Decides-like _ (λ n. record { matches = c.is-match.ensures.0 c.if-not-is-match.false; missing = n }) (λ u. u.missing)
-    (Decides-not c.is-satisfied.result c.is-satisfied.ensures)
+    Decides-like _ (λ n. record { matches = c.is_match.ensures.0 c.if-not-is_match.false; missing = n }) (λ u. u.missing)
+    (Decides-not c.is_satisfied.result c.is_satisfied.ensures)

@@ -6,8 +6,8 @@ use Rattle.reliances.proofs.Sizes.{head_few}
 use Rattle.reliances.proofs.Verified.{put_first, put_result, put_more_facts}
 use Rattle.reliances.proofs.verification.put_later.Goals as goal
 
-pub put-under-requires : goal.put-under-requires
-put-under-requires c =
+pub put_under-requires : goal.put_under-requires
+put_under-requires c =
     let l = head_few c.args.b.now.parts c.head-head.result.now c.head-head.ensures.kept c.head-head.ensures.same in
     omega (arith, l)
 
@@ -25,9 +25,9 @@ returns c =
     let n = length before in
     let head = c.head-head.result.now in
     let one = c.put.new.into in
-    let two = c.put-under.new.into in
+    let two = c.put_under.new.into in
     let put : formulas (take n one) ≡ formulas before = put_first before one c.put.ensures in (
       omega (arith, l),
       put_more_facts (result (meaning B) h (formulas before)) (n + length head) two c.put-2.new.into c.args.more.now
-          (put_result B h (formulas before) n one two head put c.head-head.ensures.same c.put-under.ensures) c.put-2.ensures,
+          (put_result B h (formulas before) n one two head put c.head-head.ensures.same c.put_under.ensures) c.put-2.ensures,
     )

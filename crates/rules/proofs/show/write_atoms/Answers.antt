@@ -14,8 +14,8 @@ text body a = formula_by (λ v. some (has? v) (map formula_of body)) (formula_of
 pub loop-i-preserved : goal.loop-i-preserved
 loop-i-preserved g c =
     puts_next g.W.Write.write_str_gives (codes ", ") (text c.args.body.now) c.args.atoms.now c.loop-i.i
-    c.args.f.now c.loop-i.f _ c.write-between.new.f c.write-atom.new.f c.write-between.result c.write-atom.result (omega arith)
-    c.loop-i.invariant c.write-between.ensures c.in-ok-write-between.was c.write-atom.ensures c.in-ok-write-atom.was
+    c.args.f.now c.loop-i.f _ c.write_between.new.f c.write_atom.new.f c.write_between.result c.write_atom.result (omega arith)
+    c.loop-i.invariant c.write_between.ensures c.in_ok-write_between.was c.write_atom.ensures c.in_ok-write_atom.was
 
 pub returns : goal.returns
 returns g c plain ok =

@@ -9,8 +9,8 @@ use Rattle.rules.proofs.show.write_terms.Goals as goal
 pub loop-i-preserved : goal.loop-i-preserved
 loop-i-preserved g c =
     puts_next g.W.Write.write_str_gives (codes ",") (term_by (λ v. c.args.all || some (has? v) (map formula_of c.args.body.now))) c.args.terms.now c.loop-i.i
-    c.args.f.now c.loop-i.f (Constant 0) c.write-between.new.f c.write-term.new.f c.write-between.result c.write-term.result (omega arith)
-    c.loop-i.invariant c.write-between.ensures c.in-ok-write-between.was c.write-term.ensures c.in-ok-write-term.was
+    c.args.f.now c.loop-i.f (Constant 0) c.write_between.new.f c.write_term.new.f c.write_between.result c.write_term.result (omega arith)
+    c.loop-i.invariant c.write_between.ensures c.in_ok-write_between.was c.write_term.ensures c.in_ok-write_term.was
 
 pub returns : goal.returns
 returns g c plain ok =

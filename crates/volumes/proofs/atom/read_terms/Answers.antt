@@ -5,18 +5,18 @@ use Rattle.volumes.specs.Reading.{read_term}
 use Rattle.volumes.proofs.Loops.{Reads, reads_more, reads_stop, reads_done}
 use Rattle.volumes.proofs.atom.read_terms.Goals as goal
 
-pub returns-in-err-terms : goal.returns-in-err-terms
-returns-in-err-terms c =
+pub returns-in_err-terms : goal.returns-in_err-terms
+returns-in_err-terms c =
     let p = err_from_is_err_and c.from-residual.result c.from-residual.ensures.1 in
     let long : length (take c.loop-i.i c.loop-i.terms) ≡ c.loop-i.i = simp length-take (omega arith) in
     rw (p.1, p.2) (record {
-      value = reads_stop _ _ c.args.start _ c.loop-i.i c.loop-i.p c.loop-i.invariant.3 long c.args.arity _ (omega arith) (sym c.in-err-terms.ensures.value);
+      value = reads_stop _ _ c.args.start _ c.loop-i.i c.loop-i.p c.loop-i.invariant.3 long c.args.arity _ (omega arith) (sym c.in_err-terms.ensures.value);
       within = tt;
     })
 
 pub loop-i-preserved : goal.loop-i-preserved
 loop-i-preserved c =
-    let q = c.in-ok-terms.ensures in
+    let q = c.in_ok-terms.ensures in
     let long : length (take c.loop-i.i c.loop-i.terms) ≡ c.loop-i.i = simp length-take (omega arith) in
     let more = reads_more _ _ c.args.start _ c.loop-i.i c.loop-i.p c.loop-i.invariant.3 long _ (sym q.value) in (
       omega (arith, q.within),

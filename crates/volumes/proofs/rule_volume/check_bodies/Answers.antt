@@ -12,22 +12,22 @@ pub overflow-add-end : goal.overflow-add-end
 overflow-add-end c =
     let up = ends_rise c.args.bytes.now (c.loop-i.i + 1) c.args.count (omega arith) in
     let more = ends_more c.args.bytes.now c.loop-i.i in
-    omega (arith, c.pair-at.ensures)
+    omega (arith, c.pair_at.ensures)
 
-pub rule-at-requires : goal.rule-at-requires
-rule-at-requires c =
+pub rule_at-requires : goal.rule_at-requires
+rule_at-requires c =
     let up = ends_rise c.args.bytes.now (c.loop-i.i + 1) c.args.count (omega arith) in
     let more = ends_more c.args.bytes.now c.loop-i.i in
-    (omega arith, omega (arith, c.pair-at.ensures))
+    (omega arith, omega (arith, c.pair_at.ensures))
 
-pub returns-in-err-rule-at : goal.returns-in-err-rule-at
-returns-in-err-rule-at c =
+pub returns-in_err-rule_at : goal.returns-in_err-rule_at
+returns-in_err-rule_at c =
     let bs = c.args.bytes.now in
     let p = err_from_is_err_and c.from-residual.result c.from-residual.ensures.1 in
-    let k = c.in-err-rule-at.ensures in
+    let k = c.in_err-rule_at.ensures in
     let v = c.loop-i.invariant.1 in
-    let f = c.in-err-rule-at.field-0.0 in
-    let end : c.loop-i.start + c.pair-at.result ≡ c.loop-i.start + extent bs c.loop-i.i = ap (λ n. c.loop-i.start + n) c.pair-at.ensures in
+    let f = c.in_err-rule_at.field-0.0 in
+    let end : c.loop-i.start + c.pair_at.result ≡ c.loop-i.start + extent bs c.loop-i.i = ap (λ n. c.loop-i.start + n) c.pair_at.ensures in
     let wrong = rule_entry_err bs c.loop-i.i c.loop-i.start _ _ end k.1 in
     rw (p.1, p.2) (rule_entries bs c.args.count _ c.requires.1.1
     (reads_stop (read_rule_entry bs) (λ i s _. s + extent bs i) (3 + 4 * c.args.count) v.0 c.loop-i.i c.loop-i.start v.2 v.1 c.args.count _ (omega arith) wrong
@@ -36,12 +36,12 @@ returns-in-err-rule-at c =
 pub loop-i-preserved : goal.loop-i-preserved
 loop-i-preserved c =
     let bs = c.args.bytes.now in
-    let k = c.in-ok-rule-at.ensures in
+    let k = c.in_ok-rule_at.ensures in
     let v = c.loop-i.invariant.1 in
     let more = ends_more bs c.loop-i.i in
-    let end : c.loop-i.start + c.pair-at.result ≡ c.loop-i.start + extent bs c.loop-i.i = ap (λ n. c.loop-i.start + n) c.pair-at.ensures in
+    let end : c.loop-i.start + c.pair_at.result ≡ c.loop-i.start + extent bs c.loop-i.i = ap (λ n. c.loop-i.start + n) c.pair_at.ensures in
     let x = rule_entry_ok bs c.loop-i.i c.loop-i.start _ k.0 end k.1 in (
-      omega (arith, c.pair-at.ensures),
+      omega (arith, c.pair_at.ensures),
       reads_on (read_rule_entry bs) (λ i s _. s + extent bs i) (3 + 4 * c.args.count) v.0 c.loop-i.i c.loop-i.start v.2 v.1 _ _ x (sym end),
     )
 

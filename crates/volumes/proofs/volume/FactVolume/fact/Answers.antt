@@ -8,19 +8,19 @@ overflow-mul-index c = let t = fact_there c.args.self.now.bytes.now c.args.index
 pub overflow-add-index : goal.overflow-add-index
 overflow-add-index c = let t = fact_there c.args.self.now.bytes.now c.args.index c.args.self.now.count c.args.self.now.counted (omega arith) in omega arith
 
-pub pair-at-place-requires : goal.pair-at-place-requires
-pair-at-place-requires c = let t = fact_there c.args.self.now.bytes.now c.args.index c.args.self.now.count c.args.self.now.counted (omega arith) in omega arith
+pub pair_at-place-requires : goal.pair_at-place-requires
+pair_at-place-requires c = let t = fact_there c.args.self.now.bytes.now c.args.index c.args.self.now.count c.args.self.now.counted (omega arith) in omega arith
 
-pub read-atom-requires : goal.read-atom-requires
-read-atom-requires c =
+pub read_atom-requires : goal.read_atom-requires
+read_atom-requires c =
     let t = fact_there c.args.self.now.bytes.now c.args.index c.args.self.now.count c.args.self.now.counted (omega arith) in
     let p = t.place in
-    (omega (arith, c.pair-at-place.ensures), omega arith)
+    (omega (arith, c.pair_at-place.ensures), omega arith)
 
 pub unreachable-requires : goal.unreachable-requires
 unreachable-requires c =
-    no_fact_fault c.args.self.now.bytes.now c.args.index _ (fact_there c.args.self.now.bytes.now c.args.index c.args.self.now.count c.args.self.now.counted (omega arith)) c.pair-at-place.result c.pair-at-place.ensures _ c.in-Err.ensures.value
+    no_fact_fault c.args.self.now.bytes.now c.args.index _ (fact_there c.args.self.now.bytes.now c.args.index c.args.self.now.count c.args.self.now.counted (omega arith)) c.pair_at-place.result c.pair_at-place.ensures _ c.in-Err.ensures.value
 
 pub returns : goal.returns
 returns c =
-    fact_had c.args.self.now.bytes.now c.args.index _ (fact_there c.args.self.now.bytes.now c.args.index c.args.self.now.count c.args.self.now.counted (omega arith)) c.pair-at-place.result c.pair-at-place.ensures c.in-Ok.atom c.in-Ok.ensures.value
+    fact_had c.args.self.now.bytes.now c.args.index _ (fact_there c.args.self.now.bytes.now c.args.index c.args.self.now.count c.args.self.now.counted (omega arith)) c.pair_at-place.result c.pair_at-place.ensures c.in-Ok.atom c.in-Ok.ensures.value

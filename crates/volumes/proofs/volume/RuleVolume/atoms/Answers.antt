@@ -3,49 +3,49 @@ use Rattle.volumes.specs.Layout.{at}
 use Rattle.volumes.proofs.Had.{rule_there, counts_there, atoms_had}
 use Rattle.volumes.proofs.volume.RuleVolume.atoms.Goals as goal
 
-pub rules-end-start-requires : goal.rules-end-start-requires
-rules-end-start-requires c = let t = rule_there c.args.self.now.bytes.now c.args.index c.args.self.now.count c.args.self.now.counted (omega arith) in (omega arith, (t.few, (t.contents, t.head)))
+pub rules_end-start-requires : goal.rules_end-start-requires
+rules_end-start-requires c = let t = rule_there c.args.self.now.bytes.now c.args.index c.args.self.now.count c.args.self.now.counted (omega arith) in (omega arith, (t.few, (t.contents, t.head)))
 
-pub rules-end-end-requires : goal.rules-end-end-requires
-rules-end-end-requires c = let t = rule_there c.args.self.now.bytes.now c.args.index c.args.self.now.count c.args.self.now.counted (omega arith) in (omega arith, (t.few, (t.contents, t.head)))
+pub rules_end-end-requires : goal.rules_end-end-requires
+rules_end-end-requires c = let t = rule_there c.args.self.now.bytes.now c.args.index c.args.self.now.count c.args.self.now.counted (omega arith) in (omega arith, (t.few, (t.contents, t.head)))
 
 pub overflow-add-result : goal.overflow-add-result
 overflow-add-result c =
     let t = rule_there c.args.self.now.bytes.now c.args.index c.args.self.now.count c.args.self.now.counted (omega arith) in
     let two = counts_there c.args.self.now.bytes.now c.args.index _ t in
     let in_bytes = t.within in
-    omega (arith, c.rules-end-start.ensures)
+    omega (arith, c.rules_end-start.ensures)
 
 pub bounds-bytes-start : goal.bounds-bytes-start
 bounds-bytes-start c =
     let t = rule_there c.args.self.now.bytes.now c.args.index c.args.self.now.count c.args.self.now.counted (omega arith) in
     let two = counts_there c.args.self.now.bytes.now c.args.index _ t in
     let in_bytes = t.within in
-    omega (arith, c.rules-end-start.ensures)
+    omega (arith, c.rules_end-start.ensures)
 
 pub overflow-add-result-2 : goal.overflow-add-result-2
 overflow-add-result-2 c =
     let t = rule_there c.args.self.now.bytes.now c.args.index c.args.self.now.count c.args.self.now.counted (omega arith) in
     let two = counts_there c.args.self.now.bytes.now c.args.index _ t in
     let in_bytes = t.within in
-    omega (arith, c.rules-end-start.ensures)
+    omega (arith, c.rules_end-start.ensures)
 
 pub bounds-bytes-start-2 : goal.bounds-bytes-start-2
 bounds-bytes-start-2 c =
     let t = rule_there c.args.self.now.bytes.now c.args.index c.args.self.now.count c.args.self.now.counted (omega arith) in
     let two = counts_there c.args.self.now.bytes.now c.args.index _ t in
     let in_bytes = t.within in
-    omega (arith, c.rules-end-start.ensures)
+    omega (arith, c.rules_end-start.ensures)
 
 pub invariant-of-result-2 : goal.invariant-of-result-2
 invariant-of-result-2 c =
     let t = rule_there c.args.self.now.bytes.now c.args.index c.args.self.now.count c.args.self.now.counted (omega arith) in
     let two = counts_there c.args.self.now.bytes.now c.args.index _ t in
     let in_bytes = t.within in
-    ((omega (arith, c.rules-end-start.ensures, c.rules-end-end.ensures), omega (arith, c.rules-end-end.ensures)), tt)
+    ((omega (arith, c.rules_end-start.ensures, c.rules_end-end.ensures), omega (arith, c.rules_end-end.ensures)), tt)
 
 pub returns : goal.returns
 returns c =
-    let e = c.rules-end-start.ensures in
-    atoms_had c.args.self.now c.args.index _ c.if-index-self.false refl (ap (λ n. n + 2) e) c.rules-end-end.ensures
+    let e = c.rules_end-start.ensures in
+    atoms_had c.args.self.now c.args.index _ c.if-index-self.false refl (ap (λ n. n + 2) e) c.rules_end-end.ensures
     (ap (at c.args.self.now.bytes.now) e) (ap (λ n. at c.args.self.now.bytes.now (n + 1)) e)
