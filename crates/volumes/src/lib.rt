@@ -1,4 +1,6 @@
 //! Rule volumes and fact volumes: their byte layout, the check that finds the first fault, and taking up what passed it.
+#![tactic(auto)]
+
 mod atom;
 mod contents;
 mod cursor;

@@ -22,14 +22,14 @@ put_under-requires-3 c =
     let lo = body_few c.args.a.now.parts c.body-own.result.now c.body-own.ensures.kept c.body-own.ensures.same in
     omega (arith, lb, lo)
 
-pub overflow-cast-result : goal.overflow-cast-result
-overflow-cast-result c =
+pub overflow_cast-result : goal.overflow_cast-result
+overflow_cast-result c =
     let lb = body_few c.args.b.now.parts c.body-body.result.now c.body-body.ensures.kept c.body-body.ensures.same in
     let lo = body_few c.args.a.now.parts c.body-own.result.now c.body-own.ensures.kept c.body-own.ensures.same in
     omega (arith, lb, lo)
 
-pub overflow-cast-result-2 : goal.overflow-cast-result-2
-overflow-cast-result-2 c =
+pub overflow_cast-result-2 : goal.overflow_cast-result-2
+overflow_cast-result-2 c =
     let lb = body_few c.args.b.now.parts c.body-body.result.now c.body-body.ensures.kept c.body-body.ensures.same in
     let lo = body_few c.args.a.now.parts c.body-own.result.now c.body-own.ensures.kept c.body-own.ensures.same in
     omega (arith, lb, lo)

@@ -7,7 +7,7 @@ use Rattle.volumes.proofs.atom.read_terms.Goals as goal
 
 pub returns-in_err-terms : goal.returns-in_err-terms
 returns-in_err-terms c =
-    let p = err_from_is_err_and c.from-residual.result c.from-residual.ensures.1 in
+    let p = err_from_is_err_and c.from_residual.result c.from_residual.ensures.1 in
     let long : length (take c.loop-i.i c.loop-i.terms) ≡ c.loop-i.i = simp length-take (omega arith) in
     rw (p.1, p.2) (record {
       value = reads_stop _ _ c.args.start _ c.loop-i.i c.loop-i.p c.loop-i.invariant.3 long c.args.arity _ (omega arith) (sym c.in_err-terms.ensures.value);

@@ -10,7 +10,7 @@ use Rattle.volumes.proofs.fact_volume.facts_end.Goals as goal
 pub returns-in_err-atom : goal.returns-in_err-atom
 returns-in_err-atom c =
     let bs = c.args.bytes.now in
-    let p = err_from_is_err_and c.from-residual.result c.from-residual.ensures.1 in
+    let p = err_from_is_err_and c.from_residual.result c.from_residual.ensures.1 in
     let v = c.loop-i.invariant.1 in
     rw (p.1, p.2) (fact_entries bs c.args.count _ c.requires.1
     (reads_stop (read_fact_entry bs) (λ _ p a. p + span a) (3 + 2 * c.args.count) v.0 c.loop-i.i c.loop-i.p v.2 v.1 c.args.count _ (omega arith) c.in_err-atom.ensures.value))

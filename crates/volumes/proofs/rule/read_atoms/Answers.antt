@@ -6,7 +6,7 @@ use Rattle.volumes.proofs.rule.read_atoms.Goals as goal
 
 pub returns-in_err-x : goal.returns-in_err-x
 returns-in_err-x c =
-    let p = err_from_is_err_and c.from-residual.result c.from-residual.ensures.1 in
+    let p = err_from_is_err_and c.from_residual.result c.from_residual.ensures.1 in
     let h = c.in_err-x.ensures in
     let s = c.args.atoms.now in
     let u = c.loop-x.atoms in

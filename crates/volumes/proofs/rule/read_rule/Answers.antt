@@ -6,7 +6,7 @@ use Rattle.volumes.proofs.rule.read_rule.Goals as goal
 
 pub returns-in_err-read_atoms : goal.returns-in_err-read_atoms
 returns-in_err-read_atoms c =
-    let p = err_from_is_err_and c.from-residual-in_err-read_atoms.result c.from-residual-in_err-read_atoms.ensures.1 in
+    let p = err_from_is_err_and c.from_residual-in_err-read_atoms.result c.from_residual-in_err-read_atoms.ensures.1 in
     let k = c.in_err-read_atoms.ensures in
     rw (p.1, p.2) (atom_stops c.args.bytes.now c.args.end c.args.start _ c.in_ok-bodies.ensures _ _ _ refl refl refl refl refl k.passed _ k.ends.0 k.ends.1)
 

@@ -8,8 +8,8 @@ use Rattle.volumes.proofs.Checking.{rule_entry_ok, rule_entry_err, rule_entries}
 use Rattle.volumes.proofs.Loops.{reads_on, reads_stop, reads_done}
 use Rattle.volumes.proofs.rule_volume.check_bodies.Goals as goal
 
-pub overflow-add-end : goal.overflow-add-end
-overflow-add-end c =
+pub overflow_add-end : goal.overflow_add-end
+overflow_add-end c =
     let up = ends_rise c.args.bytes.now (c.loop-i.i + 1) c.args.count (omega arith) in
     let more = ends_more c.args.bytes.now c.loop-i.i in
     omega (arith, c.pair_at.ensures)
@@ -23,7 +23,7 @@ rule_at-requires c =
 pub returns-in_err-rule_at : goal.returns-in_err-rule_at
 returns-in_err-rule_at c =
     let bs = c.args.bytes.now in
-    let p = err_from_is_err_and c.from-residual.result c.from-residual.ensures.1 in
+    let p = err_from_is_err_and c.from_residual.result c.from_residual.ensures.1 in
     let k = c.in_err-rule_at.ensures in
     let v = c.loop-i.invariant.1 in
     let f = c.in_err-rule_at.field-0.0 in

@@ -6,7 +6,7 @@ use Rattle.volumes.proofs.cursor.RuleAtoms.next_item.Goals.{else-self-eq0-via-th
 
 pub returns-in_err-atom : goal.returns-in_err-atom
 returns-in_err-atom c =
-    let p = err_from_is_err_and c.from-residual.result c.from-residual.ensures.1 in
+    let p = err_from_is_err_and c.from_residual.result c.from_residual.ensures.1 in
     let some : 0 < c.args.self.now.bodies + c.args.self.now.heads =
     elim c.else-self-eq0.branch [ else-self-eq0-via-then-self-eq0+else-self-eq0-2 w ↦ omega arith | else-self-eq0-via-else-self-eq0 w ↦ omega arith ] in
     rw (p.1, p.2) (record { rule = record { bytes = refl; end = refl }; place = refl; bodies = refl; heads = refl }, some, atom_says _ _ _ _ c.in_err-atom.ensures.value)

@@ -2,11 +2,11 @@ use Rattle.std.proofs.Common.{arith}
 use Rattle.volumes.proofs.Had.{fact_there, fact_had, no_fact_fault}
 use Rattle.volumes.proofs.volume.FactVolume.fact.Goals as goal
 
-pub overflow-mul-index : goal.overflow-mul-index
-overflow-mul-index c = let t = fact_there c.args.self.now.bytes.now c.args.index c.args.self.now.count c.args.self.now.counted (omega arith) in omega arith
+pub overflow_mul-index : goal.overflow_mul-index
+overflow_mul-index c = let t = fact_there c.args.self.now.bytes.now c.args.index c.args.self.now.count c.args.self.now.counted (omega arith) in omega arith
 
-pub overflow-add-index : goal.overflow-add-index
-overflow-add-index c = let t = fact_there c.args.self.now.bytes.now c.args.index c.args.self.now.count c.args.self.now.counted (omega arith) in omega arith
+pub overflow_add-index : goal.overflow_add-index
+overflow_add-index c = let t = fact_there c.args.self.now.bytes.now c.args.index c.args.self.now.count c.args.self.now.counted (omega arith) in omega arith
 
 pub pair_at-place-requires : goal.pair_at-place-requires
 pair_at-place-requires c = let t = fact_there c.args.self.now.bytes.now c.args.index c.args.self.now.count c.args.self.now.counted (omega arith) in omega arith

@@ -9,8 +9,8 @@ rules_end-start-requires c = let t = rule_there c.args.self.now.bytes.now c.args
 pub rules_end-end-requires : goal.rules_end-end-requires
 rules_end-end-requires c = let t = rule_there c.args.self.now.bytes.now c.args.index c.args.self.now.count c.args.self.now.counted (omega arith) in (omega arith, (t.few, (t.contents, t.head)))
 
-pub overflow-add-result : goal.overflow-add-result
-overflow-add-result c =
+pub overflow_add-result : goal.overflow_add-result
+overflow_add-result c =
     let t = rule_there c.args.self.now.bytes.now c.args.index c.args.self.now.count c.args.self.now.counted (omega arith) in
     let two = counts_there c.args.self.now.bytes.now c.args.index _ t in
     let in_bytes = t.within in
@@ -23,8 +23,8 @@ bounds-bytes-start c =
     let in_bytes = t.within in
     omega (arith, c.rules_end-start.ensures)
 
-pub overflow-add-result-2 : goal.overflow-add-result-2
-overflow-add-result-2 c =
+pub overflow_add-result-2 : goal.overflow_add-result-2
+overflow_add-result-2 c =
     let t = rule_there c.args.self.now.bytes.now c.args.index c.args.self.now.count c.args.self.now.counted (omega arith) in
     let two = counts_there c.args.self.now.bytes.now c.args.index _ t in
     let in_bytes = t.within in
@@ -37,12 +37,12 @@ bounds-bytes-start-2 c =
     let in_bytes = t.within in
     omega (arith, c.rules_end-start.ensures)
 
-pub invariant-of-result-2 : goal.invariant-of-result-2
-invariant-of-result-2 c =
+pub invariant_of-result-2 : goal.invariant_of-result-2
+invariant_of-result-2 c =
     let t = rule_there c.args.self.now.bytes.now c.args.index c.args.self.now.count c.args.self.now.counted (omega arith) in
     let two = counts_there c.args.self.now.bytes.now c.args.index _ t in
     let in_bytes = t.within in
-    ((omega (arith, c.rules_end-start.ensures, c.rules_end-end.ensures), omega (arith, c.rules_end-end.ensures)), tt)
+    record { within = (omega (arith, c.rules_end-start.ensures, c.rules_end-end.ensures), omega (arith, c.rules_end-end.ensures)) }
 
 pub returns : goal.returns
 returns c =

@@ -8,11 +8,11 @@ rules_end-start-requires c = let t = rule_there c.args.self.now.bytes.now c.args
 pub rules_end-end-requires : goal.rules_end-end-requires
 rules_end-end-requires c = let t = rule_there c.args.self.now.bytes.now c.args.index c.args.self.now.count c.args.self.now.counted (omega arith) in (omega arith, (t.few, (t.contents, t.head)))
 
-pub overflow-mul-index : goal.overflow-mul-index
-overflow-mul-index c = let t = rule_there c.args.self.now.bytes.now c.args.index c.args.self.now.count c.args.self.now.counted (omega arith) in omega arith
+pub overflow_mul-index : goal.overflow_mul-index
+overflow_mul-index c = let t = rule_there c.args.self.now.bytes.now c.args.index c.args.self.now.count c.args.self.now.counted (omega arith) in omega arith
 
-pub overflow-add-index-2 : goal.overflow-add-index-2
-overflow-add-index-2 c = let t = rule_there c.args.self.now.bytes.now c.args.index c.args.self.now.count c.args.self.now.counted (omega arith) in omega arith
+pub overflow_add-index-2 : goal.overflow_add-index-2
+overflow_add-index-2 c = let t = rule_there c.args.self.now.bytes.now c.args.index c.args.self.now.count c.args.self.now.counted (omega arith) in omega arith
 
 pub pair_at-number-requires : goal.pair_at-number-requires
 pair_at-number-requires c = let t = rule_there c.args.self.now.bytes.now c.args.index c.args.self.now.count c.args.self.now.counted (omega arith) in omega arith
