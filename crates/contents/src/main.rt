@@ -1,4 +1,6 @@
 //! Prints what the volume on standard input holds: a rule or a fact to a line, or its first fault.
+#![tactic(auto)]
+
 ghost use Rattle.std.specs.Prelude.{Some};
 ghost use Rattle.std.specs.Fmt.{WritesOnOk};
 ghost use Rattle.volumes.specs.Reading.{read_rules, read_facts};

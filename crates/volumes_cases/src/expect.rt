@@ -88,11 +88,9 @@ fn expect_line(
     let (changes, expected) = line.split_once(": ").ok_or("no colon")?;
     let copy = changed(heap, bytes, changes)?;
     let text = answer_text(heap, kind, copy.as_slice())?;
-    assert_eq!(rt; text.as_str(), expected);
-    assert_eq!(rt;
-        count_taken_up(kind, copy.as_slice()),
-        answer(kind, copy.as_slice()).unwrap_or(0)
-    );
+    assert_eq!(rt; text.as_str(), expected, "{line}");
+    let count = answer(kind, copy.as_slice()).unwrap_or(0);
+    assert_eq!(rt; count_taken_up(kind, copy.as_slice()), count, "{line}");
     Ok(())
 }
 
@@ -108,7 +106,7 @@ pub fn expect_lines(
     for line in table.lines() {
         let line = line.trim();
         if !line.is_empty() && !line.starts_with("#") {
-            expect_line(rt, heap, kind, bytes, line).note(line)?;
+            expect_line(rt, heap, kind, bytes, line)?;
         }
     }
     Ok(())

@@ -1,4 +1,6 @@
 //! Tables of volumes with what the check answers for them and what is taken up of them.
+#![tactic(auto)]
+
 #[cfg(test)]
 mod bounds;
 #[cfg(test)]

@@ -1,4 +1,6 @@
 //! Damages sample volumes byte by byte, and sees that the check and what is taken up agree on each.
+#![tactic(auto)]
+
 mod agreement;
 mod tally;
 
