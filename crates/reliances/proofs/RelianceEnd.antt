@@ -10,7 +10,7 @@ use Rattle.rules.specs.Matches.{Ground}
 use Rattle.rules.specs.Reliances.{ShowsReliance, PositiveReliance}
 use Rattle.rules.specs.Rules.{meaning}
 use Rattle.rules.proofs.Membership.{in_either, decides_false}
-use Rattle.matches.specs.Lists.{look, formulas, under_atom}
+use Rattle.matches.specs.Lists.{look, formulas, under_atom, Sizes}
 use Rattle.matches.proofs.Basics.{in_map, from_map}
 use Rattle.matches.proofs.Bounded.{bounded}
 use Rattle.reliances.specs.declared.sheet.Sheet.{Sheet}
@@ -49,7 +49,7 @@ module _ (A B : Rule) (rigid : List Bool) (is : FlagsAre rigid (rigid? (meaning 
   none_open old rest n shut w = shut (positive.follow_open (meaning A) (meaning B) (bounded A) (bounded B) (flags rigid) is σ (formulas old) n.reached.old_from w)
 
   -- what the end of a way shows
-  module _ (old : List Atom) (s : Sheet) (n : NodeHere σ old []) (o : Open (meaning A) (meaning B) (flags rigid) σ (formulas old)) (f : IsFound A σ old s) where
+  module _ (sa : Sizes (meaning A)) (sb : Sizes (meaning B)) (old : List Atom) (s : Sheet) (n : NodeHere σ old []) (o : Open (meaning A) (meaning B) (flags rigid) σ (formulas old)) (f : IsFound A σ old s) where
     abbrev F : List Atom
     F = take s.first_len s.first
 
@@ -57,7 +57,7 @@ module _ (A B : Rule) (rigid : List Bool) (is : FlagsAre rigid (rigid? (meaning 
     here = listed A B rigid σ old s.first_len s.first f.list
 
     shows : ShowsReliance (meaning A) (meaning B) (candidate (meaning A) σ (formulas old)) (look (part σ 0)) (look (part σ 12))
-    shows = positive.reach_shows (meaning A) (meaning B) (bounded A) (bounded B) (flags rigid) is σ (formulas old) n.reached o
+    shows = positive.reach_shows (meaning A) (meaning B) (bounded A) (bounded B) (flags rigid) is sa sb σ (formulas old) n.reached o
 
     small_all : Each Small F
     small_all x i =

@@ -109,7 +109,7 @@ module _ (A B : Rule) (σ : Subst) (old : List Atom) where
     other_atoms (x ∷ xs) = λ i. other_atom x i ∷ other_atoms xs i
 
     -- what the alternative makes of the head
-    abbrev O : List Formula
+    abbrev pub O : List Formula
     O = map (under (other (meaning B) σ)) (meaning B).head
 
     pub other_is : (head into : List Atom) (w : List Term) → head ≡ head_of B.parts → w ≡ wide σ

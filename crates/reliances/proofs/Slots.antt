@@ -10,9 +10,9 @@ use Rattle.rules.specs.Logic.{In, Each, Formula, Implication, Existential}
 use Rattle.rules.specs.Bounds.{some}
 use Rattle.rules.specs.Matches.{Assignment, value, under, Ground, IsFact, Facts}
 use Rattle.rules.proofs.Membership.{in_either, existential_decided}
-use Rattle.matches.specs.Lists.{look}
+use Rattle.matches.specs.Lists.{look, Sized}
 use Rattle.matches.proofs.Basics.{from_map, decides_some}
-use Rattle.matches.proofs.Bounded.{Within, Sized}
+use Rattle.matches.proofs.Bounded.{Within}
 use Rattle.reliances.specs.Unification.{Subst, numbered, start, part, wide, rigid?, of?, shares?}
 use Rattle.reliances.proofs.Unify.{AllGround}
 
