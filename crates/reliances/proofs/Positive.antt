@@ -1,12 +1,12 @@
 -- The search for positive reliance: a witness that follows it to a node follows it to one of the children, and what is open at
 -- the end of a path shows the reliance.
 -- Assumes nothing.
-use Rattle.std.proofs.Common.{◌≡◌, ℕ, ◌+◌, ◌-◌, ◌<◌, ◌≤◌, Bool, true, false, cond, ltb, ◌⊎◌, List, [], ◌∷◌, ◌++◌, map, length, sym, refl, ap, ◌∙◌, subst, inl, inr, ⊎_elim, zero-add, arith}
+use Rattle.std.proofs.Common.{◌≡◌, ℕ, ◌+◌, ◌-◌, ◌<◌, ◌≤◌, Bool, true, false, ltb, ◌⊎◌, List, [], ◌∷◌, ◌++◌, map, sym, ap, ◌∙◌, subst, inl, inr, ⊎_elim, zero-add, arith}
 use Rattle.std.proofs.lemmas.Bool.{cond-true, cond-false, lt-ltb, le-ltb}
 use Rattle.rules.specs.declared.Term.{Term}
 use Rattle.rules.specs.declared.Term.TheVariants.{Variable, Null}
 use Rattle.rules.specs.Logic.{In, Each, Formula, Implication, Existential}
-use Rattle.rules.specs.Matches.{Assignment, under, Ground, IsNull, Stands, Match, Satisfied, result}
+use Rattle.rules.specs.Matches.{Assignment, under, IsNull, Stands, Match, result}
 use Rattle.rules.specs.Reliances.{ShowsReliance, PositiveReliance}
 use Rattle.rules.proofs.Membership.{in_left, in_right, in_either}
 use Rattle.matches.specs.Lists.{look, Sizes}
@@ -17,7 +17,7 @@ use Rattle.reliances.specs.Following.{hat, slot, both, Reached}
 use Rattle.reliances.specs.PositiveSearch.{Followed, Open}
 use Rattle.reliances.proofs.Unify.{Slotted, slotted, Solid, unify_formulas_works}
 use Rattle.reliances.proofs.Pull.{lift, Into, lift_to, stands_lifts, match_lifts, satisfied_lifts, into_map, into_both, into_more}
-use Rattle.reliances.proofs.Slots.{decides_rigid, look_start, start_ground, look_part, part_ground, facts_under, facts_both, each_more, unshared}
+use Rattle.reliances.proofs.Slots.{decides_rigid, look_start, look_part, part_ground, facts_under, facts_both, each_more, unshared}
 use Rattle.reliances.proofs.Reaching as reaching
 
 both_first : (f s : Assignment) (v : ℕ) → v < 12 → both f s v ≡ f v

@@ -9,7 +9,7 @@ use Rattle.rules.specs.declared.Term.{Term}
 use Rattle.rules.specs.declared.Term.TheVariants.{Constant, Variable, Null}
 use Rattle.rules.specs.Logic.{In, Each, Formula, Implication, terms_of, Universal, Existential}
 use Rattle.rules.specs.Bounds.{some}
-use Rattle.rules.specs.Matches.{Assignment, value, under, Ground, IsNull, Stands, Facts, Satisfied, Applies, result}
+use Rattle.rules.specs.Matches.{Assignment, value, under, Ground, IsNull, Stands, Facts, Applies, result}
 use Rattle.rules.specs.Reliances.{Alternative, ShowsRestraint, Restraint}
 use Rattle.rules.proofs.Membership.{in_left, in_right, in_either}
 use Rattle.matches.specs.Lists.{look, Sized, Sizes}
@@ -19,9 +19,9 @@ use Rattle.matches.proofs.Bounded.{Within, Bounded, by_formula}
 use Rattle.reliances.specs.Unification.{Subst, through, replaced, flexible, unify_formulas, rigid?, rigid_both, start, part, wide, shift_var, shift_term, shift_formula, other, moved, loose_count, before_of, extra_of, later_of, shares?}
 use Rattle.reliances.specs.Following.{hat, slot, three, Reached}
 use Rattle.reliances.specs.RestraintSearch.{shifted, Followed, Open}
-use Rattle.reliances.proofs.Unify.{Slotted, slotted, Solid, Joins, elim_true, elim_false, is_flexible, replaced_is, replaced_not, good_replaced, joins_replaced, unify_formulas_works, unify_formulas_joins, still_alike}
+use Rattle.reliances.proofs.Unify.{Slotted, slotted, Solid, elim_true, elim_false, is_flexible, replaced_is, replaced_not, good_replaced, joins_replaced, unify_formulas_works}
 use Rattle.reliances.proofs.Pull.{lift, Into, lift_under, lift_to, stands_lifts, satisfied_lifts, into_map, into_both, into_more}
-use Rattle.reliances.proofs.Slots.{decides_rigid, look_start, start_ground, look_part, look_wide, part_ground, facts_under, facts_both, each_more, unshared}
+use Rattle.reliances.proofs.Slots.{decides_rigid, look_start, look_part, look_wide, part_ground, facts_under, facts_both, each_more, unshared}
 use Rattle.reliances.proofs.Reaching as reaching
 
 three_first : (f h k : Assignment) (v : ℕ) → v < 12 → three f h k v ≡ f v

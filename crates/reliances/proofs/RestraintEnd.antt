@@ -1,12 +1,12 @@
 -- The end of a way of the search for a restraint: what it shows, and how alternatives that come too early are refined away.
 -- Assumes nothing.
-use Rattle.std.proofs.Common.{◌≡◌, ℕ, ◌+◌, ◌-◌, ◌<◌, ◌≤◌, Bool, true, false, ◌⊎◌, List, [], ◌∷◌, ◌++◌, map, length, get_or, take, Decides, sym, refl, ap, ◌∙◌, subst, inl, inr, ⊎_elim, arith}
-use Rattle.std.proofs.lemmas.List.{map-append, length-map}
+use Rattle.std.proofs.Common.{◌≡◌, ℕ, ◌+◌, ◌<◌, ◌≤◌, Bool, false, List, [], ◌++◌, map, length, take, sym, refl, ap, ◌∙◌, subst, ⊎_elim, arith}
+use Rattle.std.proofs.lemmas.List.{length-map}
 use Rattle.rules.specs.declared.Term.{Term}
-use Rattle.rules.specs.declared.Term.TheVariants.{Constant, Variable, Null}
+use Rattle.rules.specs.declared.Term.TheVariants.{Variable, Null}
 use Rattle.rules.specs.declared.Atom.{Atom}
 use Rattle.rules.specs.declared.rule.Rule.{Rule}
-use Rattle.rules.specs.Logic.{In, Each, Formula, Implication, formula_of, Universal, Existential}
+use Rattle.rules.specs.Logic.{In, Each, Formula, Implication, formula_of}
 use Rattle.rules.specs.Bounds.{body_of, head_of}
 use Rattle.rules.specs.Matches.{Ground, Assignment, Stands, value, under, result}
 use Rattle.rules.specs.Reliances.{Alternative, ShowsRestraint}
@@ -19,16 +19,15 @@ use Rattle.matches.proofs.Basics.{in_map, from_map, in_terms, from_terms, under_
 use Rattle.matches.proofs.Bounded.{Bounded, bounded, by_formula}
 use Rattle.reliances.specs.declared.sheet.Kind.TheVariants.{Restraint}
 use Rattle.reliances.specs.declared.sheet.Sheet.{Sheet}
-use Rattle.reliances.specs.Unification.{Subst, through, flags, flexible, rigid_both, FlagsAre, part, wide, shift_var, shift_term, other, moved, replaced, loose_count, before_of, later_of}
+use Rattle.reliances.specs.Unification.{Subst, through, flags, flexible, rigid_both, FlagsAre, part, wide, shift_var, other, moved, loose_count, before_of, later_of}
 use Rattle.reliances.specs.Following.{Small, Node}
 use Rattle.reliances.specs.Sheets.{first_list, second_list, later_facts, ShowsRestrained}
-use Rattle.reliances.specs.RestraintSearch.{shifted, shift_by, OtherIs, IsChoice, Open, IsFound}
+use Rattle.reliances.specs.RestraintSearch.{shifted, IsChoice, Open, IsFound}
 use Rattle.reliances.specs.Searching.{Deserted}
-use Rattle.reliances.proofs.Unify.{is_flexible}
 use Rattle.reliances.proofs.Slots.{look_ground, look_wide}
-use Rattle.reliances.proofs.Nodes.{small_body, under_small, get_d_in}
+use Rattle.reliances.proofs.Nodes.{small_body, under_small}
 use Rattle.reliances.proofs.Verified.{alternative_filled, result_facts}
-use Rattle.reliances.proofs.RestraintNodes.{laid_before_lem, laid_extra_lem, shift_term_lem, marks}
+use Rattle.reliances.proofs.RestraintNodes.{laid_before_lem, laid_extra_lem, shift_term_lem}
 use Rattle.reliances.proofs.Restraint as restraint
 
 -- an alternative is one as well by an assignment that gives the rule's variables the same

@@ -9,7 +9,9 @@ ghost use Rattle.reliances.specs.Sheets.{ShowsPositive, ShowsRestrained, Shows, 
 
 use crate::lists::{first_eleven, first_nine, put, put_under};
 use crate::{Kind, Sheet};
-use matches::{are_facts, has_alternative, is_alternative, is_fresh, is_match, is_satisfied, sized};
+use matches::{
+    are_facts, has_alternative, is_alternative, is_fresh, is_match, is_satisfied, sized,
+};
 use rules::{Atom, Rule, Term};
 
 /// Whether the sheet meets the definition of the relation, for the two rules. If so, the relation holds.
