@@ -1,6 +1,6 @@
 -- What stands in a list that is mapped or put together, and tests of lists that decide.
 -- Assumes nothing.
-use Rattle.std.proofs.Common.{◌≡◌, ℕ, Bool, true, false, ◌&&◌, ◌||◌, eqb, ◌⊎◌, List, [], ◌∷◌, map, Decides, sym, refl, ap, subst, inl, inr, ⊎_elim, arith}
+use Rattle.std.proofs.Common.{◌≡◌, ℕ, suc, ◌<◌, Bool, true, false, ◌&&◌, ◌||◌, eqb, ◌⊎◌, List, [], ◌∷◌, map, length, get_or, Decides, sym, refl, ap, subst, inl, inr, ⊎_elim, arith}
 use Rattle.std.proofs.lemmas.Bool.Decides.{Decides-eqb, Decides-and, Decides-or, Decides-like, Decides-at}
 use Rattle.std.proofs.lemmas.Bool.{false≢true}
 use Rattle.rules.specs.declared.Term.{Term}
@@ -20,6 +20,12 @@ pub from_map : {A B : Type 0} (f : A → B) (y : B) (xs : List A) → In y (map 
 from_map f y [] i = absurd i
 from_map f y (x ∷ xs) (inl e) = (x, inl refl, e)
 from_map f y (x ∷ xs) (inr i) = let r = from_map f y xs i in (r.0, inr r.1, r.2)
+
+-- what holds at each index holds of each element
+pub each_index : {A : Type 0} (P : A → Type 0) (d : A) (xs : List A) → ((k : ℕ) → k < length xs → P (get_or xs k d)) → Each P xs
+each_index P d [] f x i = absurd i
+each_index P d (y ∷ ys) f x (inl e) = subst P (sym e) (f 0 (omega arith))
+each_index P d (y ∷ ys) f x (inr i) = each_index P d ys (λ k l. f (suc k) (omega arith)) x i
 
 pub in_terms : (t : Term) (a : Formula) (xs : List Formula) → In a xs → In t a.terms → Stands t xs
 in_terms t a [] i j = absurd i

@@ -1,6 +1,7 @@
--- What a rule's meaning keeps: its variables are below 12, it has no nulls, and each atom has one to four terms.
+-- What a rule's meaning keeps: its variables are below 12, it has no nulls, and each atom has one to four terms, where the
+-- atoms' arrays have four.
 -- Assumes nothing.
-use Rattle.std.proofs.Common.{◌<◌, ◌≤◌, List, length, sym, subst, arith}
+use Rattle.std.proofs.Common.{◌<◌, List, sym, subst, arith}
 use Rattle.std.proofs.lemmas.List.{length-take}
 use Rattle.rules.specs.declared.Term.{Term}
 use Rattle.rules.specs.declared.Term.TheVariants.{Constant, Variable, Null}
@@ -10,7 +11,7 @@ use Rattle.rules.specs.Logic.{In, Each, Formula, Implication, formula_of, terms_
 use Rattle.rules.specs.Bounds.{Plain, RuleAtom}
 use Rattle.rules.specs.Rules.{meaning}
 use Rattle.rules.proofs.Bounded.{makes_rule_decided}
-use Rattle.matches.specs.Lists.{formulas}
+use Rattle.matches.specs.Lists.{formulas, Sized, Whole}
 use Rattle.matches.proofs.Basics.{in_terms, from_terms, from_map}
 
 -- a rule's terms are constants and variables below 12
@@ -19,15 +20,9 @@ Within (Constant c) = Unit {0}
 Within (Variable v) = v < 12
 Within (Null n) = ⊥
 
--- one to four terms
-abbrev pub Sized : Formula → Type 0
-Sized a = (1 ≤ length a.terms) × (length a.terms ≤ 4)
-
 pub record Bounded (r : Implication) : Type 0 where
   pub body : Each Within (terms_of r.body)
   pub head : Each Within (terms_of r.head)
-  pub sizes_body : Each Sized r.body
-  pub sizes_head : Each Sized r.head
 
 -- what holds of each term holds of each formula's terms
 pub by_formula : (xs : List Formula) → Each Within (terms_of xs) → Each (λ a. Each Within a.terms) xs
@@ -44,11 +39,13 @@ atoms_within xs each t i =
     let m = from_map formula_of f.0 xs f.1 in
     plain_within t ((each m.0 m.1).plain t (subst (λ (a : Formula). In t a.terms) m.2 f.2))
 
-atoms_sized : (xs : List Atom) → Each RuleAtom xs → Each Sized (formulas xs)
-atoms_sized xs each a i =
+pub atoms_sized : (xs : List Atom) → Each RuleAtom xs → Each Whole xs → Each Sized (formulas xs)
+atoms_sized xs each whole a i =
     let m = from_map formula_of a xs i in
-    let r = each m.0 m.1 in
-    subst Sized (sym m.2) (r.some, let few = r.few in simp length-take (omega arith))
+    let some = (each m.0 m.1).some in
+    let few = (each m.0 m.1).few in
+    let four = whole m.0 m.1 in
+    subst Sized (sym m.2) (simp length-take (omega arith), simp length-take (omega arith))
 
 pub bounded : (r : Rule) → Bounded (meaning r)
 bounded r =
@@ -56,6 +53,4 @@ bounded r =
     record {
       body = atoms_within _ m.body;
       head = atoms_within _ m.head;
-      sizes_body = atoms_sized _ m.body;
-      sizes_head = atoms_sized _ m.head;
     }

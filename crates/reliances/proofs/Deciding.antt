@@ -10,7 +10,7 @@ use Rattle.rules.specs.Bounds.{existential?}
 use Rattle.rules.specs.Matches.{Assignment, under, Stands, result}
 use Rattle.rules.specs.Reliances.{Alternative, ShowsReliance, PositiveReliance, Restraint}
 use Rattle.rules.proofs.Membership.{existential_decided}
-use Rattle.matches.specs.Lists.{look, Spares}
+use Rattle.matches.specs.Lists.{look, Spares, Sizes}
 use Rattle.matches.specs.Matching.{Slots, solve, bound, filled, pick, facts?, matches?, satisfied?, applies?, sparing, chosen?}
 use Rattle.matches.proofs.Basics.{from_map, in_terms, from_terms}
 use Rattle.matches.proofs.Bounded.{Bounded, by_formula}
@@ -127,8 +127,8 @@ leaf? A B σ old = shows? A B (candidate A σ old) (look (part σ 0)) (look (par
 abbrev pub relies? : Implication → Implication → Bool
 relies? A B = ways? (rigid? A) A.head (leaf? A B) B.body start []
 
-pub decides_relies : (A B : Implication) → Bounded A → Bounded B → Decides (relies? A B) (PositiveReliance A B)
-decides_relies A B ba bb = (sound, complete)
+pub decides_relies : (A B : Implication) → Bounded A → Bounded B → Sizes A → Sizes B → Decides (relies? A B) (PositiveReliance A B)
+decides_relies A B ba bb sa sb = (sound, complete)
   where
     is_rigid : (k : ℕ) → rigid? A k ≡ rigid? A k
     is_rigid k = refl
@@ -152,7 +152,7 @@ decides_relies A B ba bb = (sound, complete)
         (positive.reach_old A B ba bb (rigid? A) is_rigid)
         (positive.reach_new A B ba bb (rigid? A) is_rigid)
         (λ σ old r v. (decides_shows A B ba bb (candidate A σ old) (look (part σ 0)) (look (part σ 12))).1
-        (positive.reach_shows A B ba bb (rigid? A) is_rigid σ old r (positive.follow_open A B ba bb (rigid? A) is_rigid σ old r.old_from v)))
+        (positive.reach_shows A B ba bb (rigid? A) is_rigid sa sb σ old r (positive.follow_open A B ba bb (rigid? A) is_rigid σ old r.old_from v)))
         B.body start []
         (positive.reach_start A B ba bb (rigid? A) is_rigid) (positive.follow_start A B ba bb (rigid? A) is_rigid w)
 
@@ -288,7 +288,7 @@ end? A B σ old = settle A B (loose_count (rigid_both A B) σ) old σ
 abbrev pub restrains? : Implication → Implication → Bool
 restrains? A B = ways? (rigid_both A B) A.head (end? A B) (map (shift_formula B) B.head) start []
 
-module _ (A B : Implication) (ba : Bounded A) (bb : Bounded B) where
+module _ (A B : Implication) (ba : Bounded A) (bb : Bounded B) (sa : Sizes A) (sb : Sizes B) where
   shown : (old : List Formula) (σ : Subst) → ready? A B σ old ≡ true → too_early A B σ old ≡ None → Restraint A B
   shown old σ e n = record {
     before = before_of B σ;
@@ -331,7 +331,7 @@ module _ (A B : Implication) (ba : Bounded A) (bb : Bounded B) where
   is_ready : (σ : Subst) (old : List Formula) → ReachedHere σ old [] → Followed σ old → ready? A B σ old ≡ true
   is_ready σ old r v =
       (decides_ready A B ba bb σ old).1
-      (restraint.reach_ready A B ba bb rigid is_rigid σ old r (restraint.follow_open A B ba bb rigid is_rigid σ old r.old_from v))
+      (restraint.reach_ready A B ba bb rigid is_rigid sa sb σ old r (restraint.follow_open A B ba bb rigid is_rigid σ old r.old_from v))
 
   -- a null of the alternative that is there too early, and the witness after it has become another
   record Moved (σ : Subst) (old : List Formula) (w : ℕ × Slots) : Type 0 where

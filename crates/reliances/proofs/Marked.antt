@@ -9,7 +9,8 @@ use Rattle.rules.specs.Logic.{Formula, Implication, terms_of, Numbered}
 use Rattle.rules.specs.Bounds.{every}
 use Rattle.rules.proofs.Membership.{decides_false, decides_every}
 use Rattle.rules.proofs.Bounded.{decides_leb}
-use Rattle.matches.proofs.Bounded.{Within, Sized, Bounded}
+use Rattle.matches.specs.Lists.{Sized, Sizes}
+use Rattle.matches.proofs.Bounded.{Within, Bounded}
 use Rattle.reliances.specs.Marked.{Claim, relies, relies_not, restrains, restrains_not, unnumbered, Pair, Holds, Right, marked, MarkedPairs}
 use Rattle.reliances.proofs.Deciding.{relies?, decides_relies, restrains?, decides_restrains}
 
@@ -34,11 +35,11 @@ abbrev bounded? : Implication → Bool
 bounded? r =
     every within? (terms_of r.body) && (every within? (terms_of r.head) && (every sized? r.body && every sized? r.head))
 
-decides_bounded : (r : Implication) → Decides (bounded? r) (Bounded r)
+decides_bounded : (r : Implication) → Decides (bounded? r) (Bounded r × Sizes r)
 decides_bounded r =
     Decides-like (bounded? r)
-    (λ e. record { body = e.0; head = e.1.0; sizes_body = e.1.1.0; sizes_head = e.1.1.1 })
-    (λ b. (b.body, (b.head, (b.sizes_body, b.sizes_head))))
+    (λ e. (record { body = e.0; head = e.1.0 }, record { body = e.1.1.0; head = e.1.1.1 }))
+    (λ b. (b.0.body, (b.0.head, (b.1.body, b.1.head))))
     (Decides-and (every within? (terms_of r.body)) _ (decides_every within? Within decides_within (terms_of r.body))
     (Decides-and (every within? (terms_of r.head)) _ (decides_every within? Within decides_within (terms_of r.head))
     (Decides-and (every sized? r.body) _ (decides_every sized? Sized decides_sized r.body)
@@ -52,13 +53,13 @@ shown? restrains A B = restrains? A B
 shown? restrains_not A B = not (restrains? A B)
 shown? unnumbered A B = restrains? A B && relies? B A
 
-shown : (c : Claim) (A B : Implication) → Bounded A → Bounded B → shown? c A B ≡ true → Holds c A B
-shown relies A B ba bb e = (decides_relies A B ba bb).0 e
-shown relies_not A B ba bb e = (Decides-not (relies? A B) (decides_relies A B ba bb)).0 e
-shown restrains A B ba bb e = (decides_restrains A B ba bb).0 e
-shown restrains_not A B ba bb e = (Decides-not (restrains? A B) (decides_restrains A B ba bb)).0 e
+shown : (c : Claim) (A B : Implication) → Bounded A × Sizes A → Bounded B × Sizes B → shown? c A B ≡ true → Holds c A B
+shown relies A B ba bb e = (decides_relies A B ba.0 bb.0 ba.1 bb.1).0 e
+shown relies_not A B ba bb e = (Decides-not (relies? A B) (decides_relies A B ba.0 bb.0 ba.1 bb.1)).0 e
+shown restrains A B ba bb e = (decides_restrains A B ba.0 bb.0 ba.1 bb.1).0 e
+shown restrains_not A B ba bb e = (Decides-not (restrains? A B) (decides_restrains A B ba.0 bb.0 ba.1 bb.1)).0 e
 shown unnumbered A B ba bb e = λ grade keeps.
-    let both = (Decides-and (restrains? A B) (relies? B A) (decides_restrains A B ba bb) (decides_relies B A bb ba)).0 e in
+    let both = (Decides-and (restrains? A B) (relies? B A) (decides_restrains A B ba.0 bb.0 ba.1 bb.1) (decides_relies B A bb.0 ba.0 bb.1 ba.1)).0 e in
     let a : Numbered = record { number = 1; rule = A } in
     let b : Numbered = record { number = 2; rule = B } in
     let less : grade 1 < grade 2 = (keeps a b (inl refl) (inr (inl refl))).1 both.0 in

@@ -1,7 +1,7 @@
 -- From node to node of either search as the code goes: the first of the atoms that remain is left old, or is new.
 -- Assumes nothing.
-use Rattle.std.proofs.Common.{◌≡◌, ℕ, zero, suc, ◌+◌, ◌<◌, ◌≤◌, Bool, true, false, ◌≢◌, ◌⊎◌, List, [], ◌∷◌, ◌++◌, map, length, get_or, take, drop, set, sym, refl, ap, ◌∙◌, subst, inl, inr, ⊎_elim, arith}
-use Rattle.std.proofs.lemmas.List.{map-append, length-append, length-map, take_more_set, take_more, get_or_past}
+use Rattle.std.proofs.Common.{◌≡◌, ℕ, zero, suc, ◌+◌, ◌<◌, Bool, true, false, ◌≢◌, List, [], ◌∷◌, ◌++◌, map, length, get_or, take, drop, set, sym, refl, ◌∙◌, subst, inl, inr, ⊎_elim, arith}
+use Rattle.std.proofs.lemmas.List.{map-append, length-append, take_more_set, take_more, get_or_past}
 use Rattle.std.proofs.lemmas.Bool.{cases_eq, cases_lt, false≢true}
 use Rattle.rules.specs.declared.Term.TheVariants.{Null}
 use Rattle.rules.specs.declared.Atom.{Atom}
@@ -9,7 +9,7 @@ use Rattle.rules.specs.declared.rule.Rule.{Rule}
 use Rattle.rules.specs.Logic.{In, Each, Formula, formula_of}
 use Rattle.rules.specs.Bounds.{body_of, head_of, MakesRule}
 use Rattle.rules.specs.Matches.{Assignment}
-use Rattle.rules.proofs.Membership.{in_left, in_right, in_either}
+use Rattle.rules.proofs.Membership.{in_left, in_right}
 use Rattle.rules.proofs.Bounded.{makes_rule_decided}
 use Rattle.matches.specs.Lists.{look, formulas, under_atom}
 use Rattle.matches.proofs.Basics.{from_map}

@@ -1,15 +1,15 @@
 -- The search for positive reliance: a witness that follows it to a node follows it to one of the children, and what is open at
 -- the end of a path shows the reliance.
 -- Assumes nothing.
-use Rattle.std.proofs.Common.{◌≡◌, ℕ, ◌+◌, ◌-◌, ◌<◌, ◌≤◌, Bool, true, false, cond, ltb, ◌⊎◌, List, [], ◌∷◌, ◌++◌, map, length, sym, refl, ap, ◌∙◌, subst, inl, inr, ⊎_elim, zero-add, arith}
+use Rattle.std.proofs.Common.{◌≡◌, ℕ, ◌+◌, ◌-◌, ◌<◌, ◌≤◌, Bool, true, false, ltb, ◌⊎◌, List, [], ◌∷◌, ◌++◌, map, sym, ap, ◌∙◌, subst, inl, inr, ⊎_elim, zero-add, arith}
 use Rattle.std.proofs.lemmas.Bool.{cond-true, cond-false, lt-ltb, le-ltb}
 use Rattle.rules.specs.declared.Term.{Term}
 use Rattle.rules.specs.declared.Term.TheVariants.{Variable, Null}
 use Rattle.rules.specs.Logic.{In, Each, Formula, Implication, Existential}
-use Rattle.rules.specs.Matches.{Assignment, under, Ground, IsNull, Stands, Match, Satisfied, result}
+use Rattle.rules.specs.Matches.{Assignment, under, IsNull, Stands, Match, result}
 use Rattle.rules.specs.Reliances.{ShowsReliance, PositiveReliance}
 use Rattle.rules.proofs.Membership.{in_left, in_right, in_either}
-use Rattle.matches.specs.Lists.{look}
+use Rattle.matches.specs.Lists.{look, Sizes}
 use Rattle.matches.proofs.Basics.{in_map, from_map, under_same}
 use Rattle.matches.proofs.Bounded.{Within, Bounded, by_formula}
 use Rattle.reliances.specs.Unification.{Subst, through, unify_formulas, rigid?, start, part, candidate, shares?}
@@ -17,7 +17,7 @@ use Rattle.reliances.specs.Following.{hat, slot, both, Reached}
 use Rattle.reliances.specs.PositiveSearch.{Followed, Open}
 use Rattle.reliances.proofs.Unify.{Slotted, slotted, Solid, unify_formulas_works}
 use Rattle.reliances.proofs.Pull.{lift, Into, lift_to, stands_lifts, match_lifts, satisfied_lifts, into_map, into_both, into_more}
-use Rattle.reliances.proofs.Slots.{decides_rigid, look_start, start_ground, look_part, part_ground, facts_under, facts_both, each_more, unshared}
+use Rattle.reliances.proofs.Slots.{decides_rigid, look_start, look_part, part_ground, facts_under, facts_both, each_more, unshared}
 use Rattle.reliances.proofs.Reaching as reaching
 
 both_first : (f s : Assignment) (v : ℕ) → v < 12 → both f s v ≡ f v
@@ -187,13 +187,13 @@ module _ (A B : Implication) (ba : Bounded A) (bb : Bounded B) (rigid : ℕ → 
       → unify_formulas rigid 0 12 a b σ ≡ τ ∷ [] → ReachedHere σ old (b ∷ rest) → ReachedHere τ old rest
   reach_new = reaching.reach_new A.head B.body slots_a slots_b rigid
 
-  pub reach_shows : (σ : Subst) (old : List Formula) → ReachedHere σ old [] → Open A B rigid σ old
+  pub reach_shows : Sizes A → Sizes B → (σ : Subst) (old : List Formula) → ReachedHere σ old [] → Open A B rigid σ old
       → ShowsReliance A B (candidate A σ old) (look (part σ 0)) (look (part σ 12))
-  reach_shows σ old r o = record {
+  reach_shows sa sb σ old r o = record {
     facts =
         facts_both (map (under h_a) A.body) (map (under h_b) old)
-        (facts_under h_a Within (part_ground σ r.ground 0) A.body body_a ba.sizes_body)
-        (facts_under h_b Within (part_ground σ r.ground 12) old (λ b i. body_b b (r.old_from b i)) (λ b i. bb.sizes_body b (r.old_from b i)));
+        (facts_under h_a Within (part_ground σ r.ground 0) A.body body_a sa.body)
+        (facts_under h_b Within (part_ground σ r.ground 12) old (λ b i. body_b b (r.old_from b i)) (λ b i. sb.body b (r.old_from b i)));
     first = record {
       unsatisfied = record {
         matches = λ a i. in_left (under h_a a) (map (under h_a) A.body) (map (under h_b) old) (in_map (under h_a) a A.body i);

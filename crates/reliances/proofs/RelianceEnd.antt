@@ -1,27 +1,25 @@
 -- What the end of a way of the search for a positive reliance shows, and where no witness can follow.
 -- Assumes nothing.
-use Rattle.std.proofs.Common.{◌≡◌, ℕ, ◌+◌, ◌<◌, ◌≤◌, Bool, true, false, ◌⊎◌, List, [], ◌∷◌, ◌++◌, map, length, get_or, take, drop, set, Decides, sym, refl, ap, ◌∙◌, subst, inl, inr, ⊎_elim, arith}
-use Rattle.std.proofs.lemmas.List.{map-append, length-map}
+use Rattle.std.proofs.Common.{◌≡◌, ◌+◌, ◌≤◌, Bool, List, [], map, length, take, sym, ap, ◌∙◌, subst, ⊎_elim, arith}
+use Rattle.std.proofs.lemmas.List.{length-map}
 use Rattle.rules.specs.declared.Atom.{Atom}
 use Rattle.rules.specs.declared.rule.Rule.{Rule}
-use Rattle.rules.specs.Logic.{In, Each, Formula, Implication, formula_of}
-use Rattle.rules.specs.Bounds.{body_of, head_of}
+use Rattle.rules.specs.Logic.{In, Each, Formula, formula_of}
+use Rattle.rules.specs.Bounds.{body_of}
 use Rattle.rules.specs.Matches.{Ground}
-use Rattle.rules.specs.Reliances.{ShowsReliance, PositiveReliance}
+use Rattle.rules.specs.Reliances.{ShowsReliance}
 use Rattle.rules.specs.Rules.{meaning}
-use Rattle.rules.proofs.Membership.{in_either, decides_false}
-use Rattle.matches.specs.Lists.{look, formulas, under_atom}
-use Rattle.matches.proofs.Basics.{in_map, from_map}
+use Rattle.rules.proofs.Membership.{in_either}
+use Rattle.matches.specs.Lists.{look, formulas, under_atom, Sizes}
+use Rattle.matches.proofs.Basics.{in_map}
 use Rattle.matches.proofs.Bounded.{bounded}
 use Rattle.reliances.specs.declared.sheet.Sheet.{Sheet}
-use Rattle.reliances.specs.Unification.{Subst, start, unify_formulas, flags, rigid?, FlagsAre, part, candidate}
-use Rattle.reliances.specs.Following.{Left, Small, Node}
-use Rattle.reliances.specs.declared.sheet.Kind.TheVariants.{Positive}
-use Rattle.reliances.specs.Sheets.{first_list, ShowsPositive, Filed}
+use Rattle.reliances.specs.Unification.{Subst, flags, rigid?, FlagsAre, part, candidate}
+use Rattle.reliances.specs.Following.{Small, Node}
+use Rattle.reliances.specs.Sheets.{ShowsPositive}
 use Rattle.reliances.specs.PositiveSearch.{Followed, Open, IsFound}
-use Rattle.reliances.proofs.Unify.{Slotted}
 use Rattle.reliances.proofs.Slots.{look_ground}
-use Rattle.reliances.proofs.Nodes.{no_atom, node_start, small_body, under_small, old_node, new_node, first_in, get_d_in}
+use Rattle.reliances.proofs.Nodes.{small_body, under_small}
 use Rattle.reliances.proofs.RelianceNodes.{listed}
 use Rattle.reliances.proofs.Positive as positive
 
@@ -49,7 +47,7 @@ module _ (A B : Rule) (rigid : List Bool) (is : FlagsAre rigid (rigid? (meaning 
   none_open old rest n shut w = shut (positive.follow_open (meaning A) (meaning B) (bounded A) (bounded B) (flags rigid) is σ (formulas old) n.reached.old_from w)
 
   -- what the end of a way shows
-  module _ (old : List Atom) (s : Sheet) (n : NodeHere σ old []) (o : Open (meaning A) (meaning B) (flags rigid) σ (formulas old)) (f : IsFound A σ old s) where
+  module _ (sa : Sizes (meaning A)) (sb : Sizes (meaning B)) (old : List Atom) (s : Sheet) (n : NodeHere σ old []) (o : Open (meaning A) (meaning B) (flags rigid) σ (formulas old)) (f : IsFound A σ old s) where
     abbrev F : List Atom
     F = take s.first_len s.first
 
@@ -57,7 +55,7 @@ module _ (A B : Rule) (rigid : List Bool) (is : FlagsAre rigid (rigid? (meaning 
     here = listed A B rigid σ old s.first_len s.first f.list
 
     shows : ShowsReliance (meaning A) (meaning B) (candidate (meaning A) σ (formulas old)) (look (part σ 0)) (look (part σ 12))
-    shows = positive.reach_shows (meaning A) (meaning B) (bounded A) (bounded B) (flags rigid) is σ (formulas old) n.reached o
+    shows = positive.reach_shows (meaning A) (meaning B) (bounded A) (bounded B) (flags rigid) is sa sb σ (formulas old) n.reached o
 
     small_all : Each Small F
     small_all x i =

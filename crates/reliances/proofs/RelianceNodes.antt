@@ -1,13 +1,13 @@
 -- What the code of the search for a positive reliance finds at a node, in terms of the node.
 -- Assumes nothing.
-use Rattle.std.proofs.Common.{◌≡◌, ℕ, ◌+◌, ◌-◌, ◌<◌, ◌≤◌, Bool, true, false, not, ◌⊎◌, List, [], ◌∷◌, ◌++◌, map, length, get_or, take, drop, set, Decides, sym, refl, ap, ◌∙◌, subst, inl, inr, ⊎_elim, arith}
+use Rattle.std.proofs.Common.{◌≡◌, ℕ, ◌+◌, ◌-◌, Bool, not, List, ◌++◌, map, length, take, Decides, sym, ap, ◌∙◌, subst, arith}
 use Rattle.std.proofs.lemmas.Bool.Decides.{Decides-like, Decides-not}
-use Rattle.std.proofs.lemmas.List.{map-append, length-map, length-append, drop_more, take_more_set, take_all}
+use Rattle.std.proofs.lemmas.List.{map-append}
 use Rattle.rules.specs.declared.Term.{Term}
 use Rattle.rules.specs.declared.Term.TheVariants.{Null}
 use Rattle.rules.specs.declared.Atom.{Atom}
 use Rattle.rules.specs.declared.rule.Rule.{Rule}
-use Rattle.rules.specs.Logic.{In, Each, Formula, Implication, formula_of}
+use Rattle.rules.specs.Logic.{Formula, formula_of}
 use Rattle.rules.specs.Bounds.{body_of, head_of}
 use Rattle.rules.specs.Matches.{Stands, under, Match, Satisfied, result}
 use Rattle.rules.specs.Rules.{meaning}

@@ -9,19 +9,19 @@ use Rattle.rules.specs.declared.Term.{Term}
 use Rattle.rules.specs.declared.Term.TheVariants.{Constant, Variable, Null}
 use Rattle.rules.specs.Logic.{In, Each, Formula, Implication, terms_of, Universal, Existential}
 use Rattle.rules.specs.Bounds.{some}
-use Rattle.rules.specs.Matches.{Assignment, value, under, Ground, IsNull, Stands, Facts, Satisfied, Applies, result}
+use Rattle.rules.specs.Matches.{Assignment, value, under, Ground, IsNull, Stands, Facts, Applies, result}
 use Rattle.rules.specs.Reliances.{Alternative, ShowsRestraint, Restraint}
 use Rattle.rules.proofs.Membership.{in_left, in_right, in_either}
-use Rattle.matches.specs.Lists.{look}
+use Rattle.matches.specs.Lists.{look, Sized, Sizes}
 use Rattle.matches.specs.Matching.{same, stands_in}
 use Rattle.matches.proofs.Basics.{in_map, from_map, in_terms, from_terms, cons_path, formula_path, under_same, either, decides_same, decides_some, decides_stands_in}
-use Rattle.matches.proofs.Bounded.{Within, Sized, Bounded, by_formula}
+use Rattle.matches.proofs.Bounded.{Within, Bounded, by_formula}
 use Rattle.reliances.specs.Unification.{Subst, through, replaced, flexible, unify_formulas, rigid?, rigid_both, start, part, wide, shift_var, shift_term, shift_formula, other, moved, loose_count, before_of, extra_of, later_of, shares?}
 use Rattle.reliances.specs.Following.{hat, slot, three, Reached}
 use Rattle.reliances.specs.RestraintSearch.{shifted, Followed, Open}
-use Rattle.reliances.proofs.Unify.{Slotted, slotted, Solid, Joins, elim_true, elim_false, is_flexible, replaced_is, replaced_not, good_replaced, joins_replaced, unify_formulas_works, unify_formulas_joins, still_alike}
+use Rattle.reliances.proofs.Unify.{Slotted, slotted, Solid, elim_true, elim_false, is_flexible, replaced_is, replaced_not, good_replaced, joins_replaced, unify_formulas_works}
 use Rattle.reliances.proofs.Pull.{lift, Into, lift_under, lift_to, stands_lifts, satisfied_lifts, into_map, into_both, into_more}
-use Rattle.reliances.proofs.Slots.{decides_rigid, look_start, start_ground, look_part, look_wide, part_ground, facts_under, facts_both, each_more, unshared}
+use Rattle.reliances.proofs.Slots.{decides_rigid, look_start, look_part, look_wide, part_ground, facts_under, facts_both, each_more, unshared}
 use Rattle.reliances.proofs.Reaching as reaching
 
 three_first : (f h k : Assignment) (v : ℕ) → v < 12 → three f h k v ≡ f v
@@ -180,10 +180,10 @@ module _ (A B : Implication) (ba : Bounded A) (bb : Bounded B) (rigid : ℕ → 
       let r = from_map (shift_formula B) s B.head i in
       subst (λ (z : Formula). Each Slotted z.terms) (sym r.2) (shift_slotted B r.0.terms (head_b r.0 r.1))
 
-  sizes_b : Each Sized Heads
-  sizes_b s i =
+  sizes_b : Sizes B → Each Sized Heads
+  sizes_b sb s i =
       let r = from_map (shift_formula B) s B.head i in
-      subst Sized (sym r.2) (at r.0 (bb.sizes_head r.0 r.1))
+      subst Sized (sym r.2) (at r.0 (sb.head r.0 r.1))
     where
       at : (b : Formula) → Sized b → Sized (shift_formula B b)
       at b z =
@@ -245,17 +245,17 @@ module _ (A B : Implication) (ba : Bounded A) (bb : Bounded B) (rigid : ℕ → 
       kept_b : (v : ℕ) → Existential B v → h_b v ≡ Null (12 + v)
       kept_b v x = look_part σ 12 v (small_b v x) ∙ r.keeps (12 + v) (rigid_second v x)
 
-      facts_before : Facts C
-      facts_before = facts_under h_b Within (part_ground σ r.ground 12) B.body body_b bb.sizes_body
+      facts_before : Sizes B → Facts C
+      facts_before sb = facts_under h_b Within (part_ground σ r.ground 12) B.body body_b sb.body
 
-      facts_later : Facts D
-      facts_later =
+      facts_later : Sizes A → Sizes B → Facts D
+      facts_later sa sb =
           facts_both (result B h_b C) (extra_of A σ old)
-          (facts_both C (map (under h_b) B.head) facts_before
-          (facts_under h_b Within (part_ground σ r.ground 12) B.head head_b bb.sizes_head))
+          (facts_both C (map (under h_b) B.head) (facts_before sb)
+          (facts_under h_b Within (part_ground σ r.ground 12) B.head head_b sb.head))
           (facts_both (map (under h_a) A.body) (map (under h_s) old)
-          (facts_under h_a Within (part_ground σ r.ground 0) A.body body_a ba.sizes_body)
-          (facts_under h_s Slotted (wide_ground σ r.ground) old (λ o i. slots_b o (r.old_from o i)) (λ o i. sizes_b o (r.old_from o i))))
+          (facts_under h_a Within (part_ground σ r.ground 0) A.body body_a sa.body)
+          (facts_under h_s Slotted (wide_ground σ r.ground) old (λ o i. slots_b o (r.old_from o i)) (λ o i. sizes_b sb o (r.old_from o i))))
 
       through_first : (a : Formula) → Each Within a.terms → under h_a a ≡ under (through σ 0) a
       through_first a i = under_same h_a (through σ 0) a (λ v j. look_part σ 0 v (i (Variable v) j))
@@ -280,9 +280,9 @@ module _ (A B : Implication) (ba : Bounded A) (bb : Bounded B) (rigid : ℕ → 
           j)
           (r.covers (shift_formula B b) (in_map (shift_formula B) b B.head i))
 
-      ready_at : Open A B σ old → Ready A B σ old
-      ready_at o = record {
-        facts = facts_before;
+      ready_at : Sizes A → Sizes B → Open A B σ old → Ready A B σ old
+      ready_at sa sb o = record {
+        facts = facts_before sb;
         second = record {
           unsatisfied = record { matches = λ a i. in_map (under h_b) a B.body i; missing = o.second };
           fresh = record {
@@ -291,7 +291,7 @@ module _ (A B : Implication) (ba : Bounded A) (bb : Bounded B) (rigid : ℕ → 
             apart = λ v u x y e. let z : 12 + v ≡ 12 + u = cc (kept_b v x, kept_b u y) in omega arith;
           };
         };
-        later = facts_later;
+        later = facts_later sa sb;
         first = record {
           unsatisfied = record { matches = matches_a; missing = o.first };
           fresh = record {
@@ -309,13 +309,13 @@ module _ (A B : Implication) (ba : Bounded A) (bb : Bounded B) (rigid : ℕ → 
         };
       }
 
-  pub reach_ready : (σ : Subst) (old : List Formula) → ReachedHere σ old [] → Open A B σ old → Ready A B σ old
-  reach_ready σ old r o = ready_at σ old r o
+  pub reach_ready : Sizes A → Sizes B → (σ : Subst) (old : List Formula) → ReachedHere σ old [] → Open A B σ old → Ready A B σ old
+  reach_ready sa sb σ old r o = ready_at σ old r sa sb o
 
-  pub reach_shows : (σ : Subst) (old : List Formula) → ReachedHere σ old [] → Open A B σ old
+  pub reach_shows : Sizes A → Sizes B → (σ : Subst) (old : List Formula) → ReachedHere σ old [] → Open A B σ old
       → ((k : Assignment) → Alternative B (look (part σ 12)) (later_of A B σ old) k → ⊥)
       → ShowsRestraint A B (before_of B σ) (later_of A B σ old) (look (part σ 0)) (look (part σ 12)) (other B σ)
-  reach_shows σ old r o none = ready_shows A B σ old (ready_at σ old r o) none
+  reach_shows sa sb σ old r o none = ready_shows A B σ old (ready_at σ old r sa sb o) none
 
   -- an existential variable of B keeps its null
   pub reach_null : (σ : Subst) (old rest : List Formula) → ReachedHere σ old rest → (v : ℕ) → Existential B v → look (part σ 12) v ≡ Null (12 + v)

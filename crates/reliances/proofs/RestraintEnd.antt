@@ -1,34 +1,33 @@
 -- The end of a way of the search for a restraint: what it shows, and how alternatives that come too early are refined away.
 -- Assumes nothing.
-use Rattle.std.proofs.Common.{◌≡◌, ℕ, ◌+◌, ◌-◌, ◌<◌, ◌≤◌, Bool, true, false, ◌⊎◌, List, [], ◌∷◌, ◌++◌, map, length, get_or, take, Decides, sym, refl, ap, ◌∙◌, subst, inl, inr, ⊎_elim, arith}
-use Rattle.std.proofs.lemmas.List.{map-append, length-map}
+use Rattle.std.proofs.Common.{◌≡◌, ℕ, ◌+◌, ◌<◌, ◌≤◌, Bool, false, List, [], ◌++◌, map, length, take, sym, refl, ap, ◌∙◌, subst, ⊎_elim, arith}
+use Rattle.std.proofs.lemmas.List.{length-map}
 use Rattle.rules.specs.declared.Term.{Term}
-use Rattle.rules.specs.declared.Term.TheVariants.{Constant, Variable, Null}
+use Rattle.rules.specs.declared.Term.TheVariants.{Variable, Null}
 use Rattle.rules.specs.declared.Atom.{Atom}
 use Rattle.rules.specs.declared.rule.Rule.{Rule}
-use Rattle.rules.specs.Logic.{In, Each, Formula, Implication, formula_of, Universal, Existential}
+use Rattle.rules.specs.Logic.{In, Each, Formula, Implication, formula_of}
 use Rattle.rules.specs.Bounds.{body_of, head_of}
 use Rattle.rules.specs.Matches.{Ground, Assignment, Stands, value, under, result}
 use Rattle.rules.specs.Reliances.{Alternative, ShowsRestraint}
 use Rattle.rules.specs.Rules.{meaning}
 use Rattle.std.proofs.lemmas.Bool.{not_from_false}
 use Rattle.rules.proofs.Membership.{in_right, in_either}
-use Rattle.matches.specs.Lists.{look, formulas, under_atom, Spares}
+use Rattle.matches.specs.Lists.{look, formulas, under_atom, Spares, Sizes}
 use Rattle.matches.specs.Matching.{stands}
 use Rattle.matches.proofs.Basics.{in_map, from_map, in_terms, from_terms, under_same, map_same, either, decides_stands}
 use Rattle.matches.proofs.Bounded.{Bounded, bounded, by_formula}
 use Rattle.reliances.specs.declared.sheet.Kind.TheVariants.{Restraint}
 use Rattle.reliances.specs.declared.sheet.Sheet.{Sheet}
-use Rattle.reliances.specs.Unification.{Subst, through, flags, flexible, rigid_both, FlagsAre, part, wide, shift_var, shift_term, other, moved, replaced, loose_count, before_of, later_of}
+use Rattle.reliances.specs.Unification.{Subst, through, flags, flexible, rigid_both, FlagsAre, part, wide, shift_var, other, moved, loose_count, before_of, later_of}
 use Rattle.reliances.specs.Following.{Small, Node}
 use Rattle.reliances.specs.Sheets.{first_list, second_list, later_facts, ShowsRestrained}
-use Rattle.reliances.specs.RestraintSearch.{shifted, shift_by, OtherIs, IsChoice, Open, IsFound}
+use Rattle.reliances.specs.RestraintSearch.{shifted, IsChoice, Open, IsFound}
 use Rattle.reliances.specs.Searching.{Deserted}
-use Rattle.reliances.proofs.Unify.{is_flexible}
 use Rattle.reliances.proofs.Slots.{look_ground, look_wide}
-use Rattle.reliances.proofs.Nodes.{small_body, under_small, get_d_in}
-use Rattle.reliances.proofs.Verified.{alternative_filled}
-use Rattle.reliances.proofs.RestraintNodes.{laid_before_lem, laid_extra_lem, shift_term_lem, marks}
+use Rattle.reliances.proofs.Nodes.{small_body, under_small}
+use Rattle.reliances.proofs.Verified.{alternative_filled, result_facts}
+use Rattle.reliances.proofs.RestraintNodes.{laid_before_lem, laid_extra_lem, shift_term_lem}
 use Rattle.reliances.proofs.Restraint as restraint
 
 -- an alternative is one as well by an assignment that gives the rule's variables the same
@@ -81,7 +80,7 @@ module _ (A B : Rule) (rigid : List Bool) (is : FlagsAre rigid (rigid_both (mean
   fewer_old head rest n e l m = omega arith
 
   -- what the end of a way shows
-  module _ (s : Sheet) (n : NodeHere σ []) (o : OpenHere) (none : (k : Assignment) → Alternative (meaning B) (look (part σ 12)) (later_of (meaning A) (meaning B) σ (formulas old)) k → ⊥) (f : IsFound A B rigid σ old s) where
+  module _ (sa : Sizes (meaning A)) (sb : Sizes (meaning B)) (s : Sheet) (n : NodeHere σ []) (o : OpenHere) (none : (k : Assignment) → Alternative (meaning B) (look (part σ 12)) (later_of (meaning A) (meaning B) σ (formulas old)) k → ⊥) (f : IsFound A B rigid σ old s) where
     abbrev F : List Atom
     F = first_list s
 
@@ -101,7 +100,7 @@ module _ (A B : Rule) (rigid : List Bool) (is : FlagsAre rigid (rigid_both (mean
 
     shows : ShowsRestraint (meaning A) (meaning B) (before_of (meaning B) σ) (later_of (meaning A) (meaning B) σ (formulas old)) (look (part σ 0)) (look (part σ 12)) (look s.alternative)
     shows =
-        let z = restraint.reach_shows (meaning A) (meaning B) (bounded A) (bounded B) (flags rigid) is σ (formulas old) n.reached o none in
+        let z = restraint.reach_shows (meaning A) (meaning B) (bounded A) (bounded B) (flags rigid) is sa sb σ (formulas old) n.reached o none in
         record {
           facts = z.facts;
           second = z.second;
@@ -135,7 +134,11 @@ module _ (A B : Rule) (rigid : List Bool) (is : FlagsAre rigid (rigid_both (mean
       more = λ x i. record { few = small_second x i; fact = all_shows.later (formula_of x) (in_right (formula_of x) (result (meaning B) (look s.second_rule) (formulas F)) (formulas M) (in_map formula_of x M i)) };
       first = λ v u. subst (λ z. Ground (look z v)) (sym f.first_rule) (look_ground σ n.reached.ground 0 v);
       second = λ v u. subst (λ z. Ground (look z v)) (sym f.second_rule) (look_ground σ n.reached.ground 12 v);
-      other = alternative_filled (meaning A) (meaning B) (bounded A) (bounded B) (formulas F) (later_facts (meaning B) s) (look s.first_rule) (look s.second_rule) (look s.alternative) all_shows;
+      other =
+          let H = later_facts (meaning B) s in
+          alternative_filled (meaning B) (look s.second_rule) (formulas F) all_shows.facts (result (meaning A) (look s.first_rule) H)
+          (result_facts (meaning A) (look s.first_rule) H all_shows.later (bounded A) sa all_shows.first) (look s.alternative)
+          all_shows.second all_shows.alternative;
       shows = all_shows;
     }
 

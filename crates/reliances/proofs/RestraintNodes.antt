@@ -1,23 +1,23 @@
 -- What the code of the search for a restraint finds at a node, in terms of the node.
 -- Assumes nothing.
-use Rattle.std.proofs.Common.{◌≡◌, ℕ, zero, suc, ◌+◌, ◌-◌, ◌<◌, ◌≤◌, Bool, true, false, ltb, ◌⊎◌, List, [], ◌∷◌, ◌++◌, map, length, get_or, take, drop, Decides, sym, refl, ap, ◌∙◌, subst, inl, inr, ⊎_elim, arith}
+use Rattle.std.proofs.Common.{◌≡◌, ℕ, ◌+◌, ◌-◌, ◌<◌, ◌≤◌, Bool, true, false, ltb, List, [], ◌∷◌, ◌++◌, map, length, take, Decides, sym, refl, ap, ◌∙◌, subst, ⊎_elim, arith}
 use Rattle.std.proofs.lemmas.Bool.Decides.{Decides-like}
-use Rattle.std.proofs.lemmas.Bool.{cases_lt, lt-ltb, le-ltb, false≢true}
-use Rattle.std.proofs.lemmas.List.{map-append, length-map, length-append, append_assoc, get_or-take, get_or_past, take-map, length-take}
+use Rattle.std.proofs.lemmas.Bool.{cases_lt, lt-ltb, le-ltb}
+use Rattle.std.proofs.lemmas.List.{map-append, length-map, length-append, append_assoc, get_or-take, take-map, length-take}
 use Rattle.rules.specs.declared.Term.{Term}
 use Rattle.rules.specs.declared.Term.TheVariants.{Constant, Variable, Null}
 use Rattle.rules.specs.declared.Atom.{Atom}
 use Rattle.rules.specs.declared.rule.Rule.{Rule}
-use Rattle.rules.specs.Logic.{In, Each, Formula, Implication, formula_of, terms_of, Existential}
+use Rattle.rules.specs.Logic.{Formula, formula_of, Existential}
 use Rattle.rules.specs.Bounds.{body_of, head_of}
-use Rattle.rules.specs.Matches.{Assignment, Stands, value, under, Satisfied, result}
+use Rattle.rules.specs.Matches.{Assignment, Stands, under, Satisfied, result}
 use Rattle.rules.specs.Rules.{meaning}
 use Rattle.rules.proofs.Membership.{in_left}
 use Rattle.matches.specs.Lists.{look, formulas, under_atom}
 use Rattle.matches.proofs.Basics.{in_terms, from_terms, map_same}
 use Rattle.matches.proofs.Bounded.{bounded}
-use Rattle.reliances.specs.Unification.{Subst, through, flags, rigid?, rigid_both, FlagsAre, part, wide, shift_var, shift_term, shift_formula, other, before_of, extra_of, later_of, HasRigid}
-use Rattle.reliances.specs.RestraintSearch.{shifted, shift_by, shift_atom, laid_before, laid_extra, laid_later, SomeSpared, Marks, Open}
+use Rattle.reliances.specs.Unification.{Subst, flags, rigid?, rigid_both, FlagsAre, part, wide, shift_term, shift_formula, other, before_of, extra_of, later_of, HasRigid}
+use Rattle.reliances.specs.RestraintSearch.{shift_by, shift_atom, laid_before, laid_extra, laid_later, SomeSpared, Marks, Open}
 use Rattle.reliances.proofs.Unify.{elim_true, elim_false}
 use Rattle.reliances.proofs.Slots.{decides_rigid}
 use Rattle.matches.proofs.Steps.{of_under}
@@ -30,6 +30,13 @@ pub take_first : {X : Type 0} (xs ys : List X) → take (length xs) (xs ++ ys) �
 take_first [] [] = refl
 take_first [] (y ∷ ys) = refl
 take_first (x ∷ xs) ys = ap (λ z. x ∷ z) (take_first xs ys)
+
+-- a head that was put at the start of an array, as h says
+pub given_is : (B : Rule) (h : Assignment) (head into : List Atom) → head ≡ head_of B.parts → take (0 + length head) into ≡ map (under_atom h) head
+    → formulas (take (length head - 0) into) ≡ map (under h) (meaning B).head
+given_is B h head into p e =
+    ap (λ n. formulas (take n into)) (let z : length head - 0 ≡ 0 + length head = omega arith in z) ∙ ap formulas e ∙ all_under h head
+    ∙ ap (λ z. map (under h) (formulas z)) p
 
 module _ (A B : Rule) (σ : Subst) (old : List Atom) where
   abbrev C : List Formula
@@ -109,7 +116,7 @@ module _ (A B : Rule) (σ : Subst) (old : List Atom) where
     other_atoms (x ∷ xs) = λ i. other_atom x i ∷ other_atoms xs i
 
     -- what the alternative makes of the head
-    abbrev O : List Formula
+    abbrev pub O : List Formula
     O = map (under (other (meaning B) σ)) (meaning B).head
 
     pub other_is : (head into : List Atom) (w : List Term) → head ≡ head_of B.parts → w ≡ wide σ

@@ -1,6 +1,6 @@
 -- How many atoms a rule has, as its slices say.
 -- Assumes nothing.
-use Rattle.std.proofs.Common.{◌≡◌, ℕ, ◌≤◌, List, length, take, sym, ap, subst, arith}
+use Rattle.std.proofs.Common.{◌≡◌, ◌≤◌, List, length, sym, subst, arith}
 use Rattle.std.proofs.lemmas.List.{length-take}
 use Rattle.rules.specs.declared.Atom.{Atom}
 use Rattle.rules.specs.declared.parts.RuleParts.{RuleParts}

@@ -10,9 +10,9 @@ use Rattle.rules.specs.Logic.{In, Each, Formula, Implication, Existential}
 use Rattle.rules.specs.Bounds.{some}
 use Rattle.rules.specs.Matches.{Assignment, value, under, Ground, IsFact, Facts}
 use Rattle.rules.proofs.Membership.{in_either, existential_decided}
-use Rattle.matches.specs.Lists.{look}
+use Rattle.matches.specs.Lists.{look, Sized}
 use Rattle.matches.proofs.Basics.{from_map, decides_some}
-use Rattle.matches.proofs.Bounded.{Within, Sized}
+use Rattle.matches.proofs.Bounded.{Within}
 use Rattle.reliances.specs.Unification.{Subst, numbered, start, part, wide, rigid?, of?, shares?}
 use Rattle.reliances.proofs.Unify.{AllGround}
 
@@ -48,7 +48,7 @@ part_ground σ g off (Null n) w = absurd w
 pub look_ground : (σ : Subst) → AllGround σ → (off v : ℕ) → Ground (look (part σ off) v)
 look_ground σ g off v =
     ⊎_elim (λ l. subst Ground (sym (look_part σ off v l)) (g (off + v)))
-    (λ l. subst Ground (sym (get_or_past (part σ off) v (Constant 0) (let e : length (part σ off) ≤ 12 = simp length-take (omega arith) in omega arith))) tt)
+    (λ (l : 12 ≤ v). subst Ground (sym (get_or_past (part σ off) v (Constant 0) (let e : length (part σ off) ≤ 12 = simp length-take (omega arith) in omega arith))) tt)
     (cases_lt v 12)
 
 -- formulas with one to four terms each become facts where each term becomes ground

@@ -7,7 +7,7 @@ use Rattle.std.proofs.lemmas.Bool.{false≢true, both_ways, not-true, not-false,
 use Rattle.rules.specs.declared.Term.{Term}
 use Rattle.rules.specs.declared.Term.TheVariants.{Constant, Variable, Null}
 use Rattle.rules.specs.Logic.{Each, Formula}
-use Rattle.rules.specs.Matches.{Assignment, value, under, Ground, IsNull}
+use Rattle.rules.specs.Matches.{value, under, Ground, IsNull}
 use Rattle.matches.specs.Lists.{look}
 use Rattle.matches.specs.Matching.{same}
 use Rattle.matches.proofs.Basics.{decides_same, either, heads_same, tails_same, nil-cons, cons_path, formula_path}

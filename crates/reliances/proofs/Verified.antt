@@ -1,6 +1,6 @@
 -- What the tests of a sheet say together, and that entries which are read hold constants and nulls where the tests pass.
 -- Assumes nothing.
-use Rattle.std.proofs.Common.{◌≡◌, ℕ, ◌+◌, ◌-◌, ◌≤◌, Bool, true, ◌⊎◌, List, ◌++◌, map, length, take, Decides, sym, ap, ◌∙◌, subst, inl, inr, ⊎_elim, arith}
+use Rattle.std.proofs.Common.{◌≡◌, ℕ, ◌+◌, ◌-◌, ◌≤◌, Bool, true, List, ◌++◌, map, length, take, Decides, sym, ap, ◌∙◌, subst, inl, inr, ⊎_elim, arith}
 use Rattle.std.proofs.lemmas.Bool.Decides.{Decides-like}
 use Rattle.std.proofs.lemmas.List.{map-append}
 use Rattle.rules.specs.declared.Term.{Term}
@@ -13,7 +13,7 @@ use Rattle.rules.specs.Matches.{Ground, IsNull, Facts, Stands, Assignment, value
 use Rattle.rules.specs.Reliances.{ShowsReliance, Alternative, ShowsRestraint}
 use Rattle.rules.specs.Rules.{meaning}
 use Rattle.rules.proofs.Membership.{in_left, stands_decided}
-use Rattle.matches.specs.Lists.{look, formulas, under_atom, FactAtom, HasAlternative}
+use Rattle.matches.specs.Lists.{look, formulas, under_atom, FactAtom, Sizes, HasAlternative}
 use Rattle.matches.proofs.Basics.{in_map, from_terms, in_terms, either}
 use Rattle.matches.proofs.Bounded.{Within, Bounded, bounded}
 use Rattle.reliances.specs.declared.sheet.Kind.{Kind}
@@ -49,11 +49,11 @@ module _ (R : Implication) (h : Assignment) (F : List Formula) (facts : Facts F)
   head_ground p (Null n) w = absurd w.0
 
   -- what an application results in are facts
-  pub result_facts : Bounded R → Applies R h F → Facts (result R h F)
-  result_facts b p =
+  pub result_facts : Bounded R → Sizes R → Applies R h F → Facts (result R h F)
+  result_facts b sizes p =
       facts_both F (map (under h) R.head) facts
       (facts_under h (λ t. Within t × Stands t R.head) (head_ground p) R.head
-      (λ a i t j. let k = in_terms t a R.head i j in (b.head t k, k)) b.sizes_head)
+      (λ a i t j. let k = in_terms t a R.head i j in (b.head t k, k)) sizes.head)
 
   -- an alternative for the application is filled too, where it stands in facts
   pub alternative_filled : (K : List Formula) → Facts K → (k : Assignment) → Applies R h F → Alternative R h K k → Filled (Applied R) k
@@ -101,15 +101,15 @@ module _ (A B : Rule) (F M : List Formula) (f h k : Assignment) where
   pub too_early : (G : List Formula) → G ≡ H → HasAlternative (meaning B) h G → ShowsRestraint (meaning A) (meaning B) F H f h k → ⊥
   too_early G e a w = w.none a.0 (subst (λ z. Alternative (meaning B) h z a.0) e a.1)
 
-  pub restraint_decided : Facts F → Facts M → (G K : List Formula) → G ≡ H → K ≡ result (meaning A) f H → Applies (meaning B) h F → Applies (meaning A) f G
+  pub restraint_decided : Sizes (meaning B) → Facts F → Facts M → (G K : List Formula) → G ≡ H → K ≡ result (meaning A) f H → Applies (meaning B) h F → Applies (meaning A) f G
       → (HasAlternative (meaning B) h G → ⊥) → (r : Bool) → Decides r (Alternative (meaning B) h K k)
       → Decides r (ShowsRestraint (meaning A) (meaning B) F H f h k)
-  restraint_decided facts added G K e q second first none r d =
+  restraint_decided sb facts added G K e q second first none r d =
       Decides-like r
       (λ a. record {
         facts = facts;
         second = second;
-        later = facts_both (result (meaning B) h F) M (result_facts (meaning B) h F facts (bounded B) second) added;
+        later = facts_both (result (meaning B) h F) M (result_facts (meaning B) h F facts (bounded B) sb second) added;
         contains = λ x i. in_left x (result (meaning B) h F) M i;
         first = subst (Applies (meaning A) f) e first;
         alternative = subst (λ z. Alternative (meaning B) h z k) q a;
@@ -128,22 +128,22 @@ module _ (A B : Rule) (S : Sheet) (L : List Atom) (listed : L ≡ first_list S) 
   abbrev F : List Formula
   F = formulas (first_list S)
 
-  shows_positive : S.first_len ≤ 11 → S.second_len ≡ 0 → Each FactAtom (first_list S) → ShowsReliance (meaning A) (meaning B) F f s
+  shows_positive : Sizes (meaning A) → S.first_len ≤ 11 → S.second_len ≡ 0 → Each FactAtom (first_list S) → ShowsReliance (meaning A) (meaning B) F f s
       → ShowsPositive (meaning A) (meaning B) S
-  shows_positive few empty facts w = record {
+  shows_positive sa few empty facts w = record {
     few = few;
     empty = empty;
     facts = facts;
     first = applied_filled (meaning A) f F w.facts w.first;
-    second = matched_filled (meaning B) s (result (meaning A) f F) (result_facts (meaning A) f F w.facts (bounded A) w.first) w.second.matches;
+    second = matched_filled (meaning B) s (result (meaning A) f F) (result_facts (meaning A) f F w.facts (bounded A) sa w.first) w.second.matches;
     shows = w;
   }
 
-  pub positive_decided : S.first_len ≤ 11 → S.second_len ≡ 0 → Each FactAtom L
+  pub positive_decided : Sizes (meaning A) → S.first_len ≤ 11 → S.second_len ≡ 0 → Each FactAtom L
       → (r : Bool) → Decides r (ShowsReliance (meaning A) (meaning B) (formulas L) f s) → Decides r (ShowsPositive (meaning A) (meaning B) S)
-  positive_decided few empty facts r d =
+  positive_decided sa few empty facts r d =
       Decides-like r
-      (λ w. shows_positive few empty (subst (Each FactAtom) listed facts) (subst (λ l. ShowsReliance (meaning A) (meaning B) (formulas l) f s) listed w))
+      (λ w. shows_positive sa few empty (subst (Each FactAtom) listed facts) (subst (λ l. ShowsReliance (meaning A) (meaning B) (formulas l) f s) listed w))
       (λ w. subst (λ l. ShowsReliance (meaning A) (meaning B) (formulas l) f s) (sym listed) w.shows)
       d
 
@@ -163,9 +163,9 @@ module _ (A B : Rule) (S : Sheet) (L : List Atom) (listed : L ≡ first_list S) 
     abbrev ShowsAt : List Atom → List Atom → Type 0
     ShowsAt l m = ShowsRestraint (meaning A) (meaning B) (formulas l) (result (meaning B) s (formulas l) ++ formulas m) f s k
 
-    shows_restrained : S.first_len ≤ 11 → S.second_len ≤ 9 → Each FactAtom (first_list S) → Each FactAtom (second_list S) → ShowsAt (first_list S) (second_list S)
+    shows_restrained : Sizes (meaning A) → S.first_len ≤ 11 → S.second_len ≤ 9 → Each FactAtom (first_list S) → Each FactAtom (second_list S) → ShowsAt (first_list S) (second_list S)
         → ShowsRestrained (meaning A) (meaning B) S
-    shows_restrained few fewer facts more w = record {
+    shows_restrained sa few fewer facts more w = record {
       few = few;
       fewer = fewer;
       facts = facts;
@@ -173,16 +173,16 @@ module _ (A B : Rule) (S : Sheet) (L : List Atom) (listed : L ≡ first_list S) 
       first = applied_filled (meaning A) f D w.later w.first;
       second = applied_filled (meaning B) s F w.facts w.second;
       other =
-          alternative_filled (meaning B) s F w.facts (result (meaning A) f D) (result_facts (meaning A) f D w.later (bounded A) w.first) k
+          alternative_filled (meaning B) s F w.facts (result (meaning A) f D) (result_facts (meaning A) f D w.later (bounded A) sa w.first) k
           w.second w.alternative;
       shows = w;
     }
 
-    pub restrained_decided : S.first_len ≤ 11 → S.second_len ≤ 9 → Each FactAtom L → Each FactAtom M → (r : Bool) → Decides r (ShowsAt L M)
+    pub restrained_decided : Sizes (meaning A) → S.first_len ≤ 11 → S.second_len ≤ 9 → Each FactAtom L → Each FactAtom M → (r : Bool) → Decides r (ShowsAt L M)
         → Decides r (ShowsRestrained (meaning A) (meaning B) S)
-    restrained_decided few fewer facts more r d =
+    restrained_decided sa few fewer facts more r d =
         Decides-like r
-        (λ w. shows_restrained few fewer (subst (Each FactAtom) listed facts) (subst (Each FactAtom) added more)
+        (λ w. shows_restrained sa few fewer (subst (Each FactAtom) listed facts) (subst (Each FactAtom) added more)
         (subst (λ m. ShowsAt (first_list S) m) added (subst (λ l. ShowsAt l M) listed w)))
         (λ w. subst (λ l. ShowsAt l M) (sym listed) (subst (λ m. ShowsAt (first_list S) m) (sym added) w.shows))
         d

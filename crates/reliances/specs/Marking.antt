@@ -1,5 +1,5 @@
 -- Flags by slot, set or cleared for the variables that stand in atoms (a model of the loops that do it).
-use Rattle.std.specs.Prelude.{ℕ, ◌+◌, Bool, List, [], ◌∷◌, set, slice_set}
+use Rattle.std.specs.Prelude.{ℕ, ◌+◌, Bool, List, [], ◌∷◌, slice_set}
 use Rattle.rules.specs.declared.Term.{Term}
 use Rattle.rules.specs.declared.Term.TheVariants.{Constant, Variable, Null}
 use Rattle.rules.specs.Logic.{Formula}

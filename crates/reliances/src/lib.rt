@@ -1,4 +1,6 @@
 //! The two relations between rules, decided for any two rules and shown by a sheet of facts.
+#![tactic(auto)]
+
 ghost use Rattle.reliances.specs.Marked.{MarkedPairs};
 
 mod lists;

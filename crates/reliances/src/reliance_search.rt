@@ -12,7 +12,7 @@ ghost use Rattle.reliances.specs.Searching.{Shut, Searched};
 use crate::Sheet;
 use crate::lists::put_under;
 use crate::substitution::{copy_slots, first_slots, has_rigid, second_slots};
-use matches::{is_match, is_satisfied};
+use matches::{is_match, is_satisfied, sized};
 use rules::{Atom, Rule, Term};
 
 // Writes the facts of a node: the first rule's body, and the atoms left old. Gives how many.
@@ -104,6 +104,8 @@ pub(crate) fn finish(
     if !is_open(a, b, sigma, rigid, old) {
         return false;
     }
+    sized(a);
+    sized(b);
     *sheet = found_sheet(a, sigma, old);
     true
 }

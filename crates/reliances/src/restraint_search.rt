@@ -15,7 +15,7 @@ use crate::Sheet;
 use crate::lists::put_under;
 use crate::substitution::{copy_slots, first_slots, has_rigid, second_slots, wide_slots};
 use crate::unifier::{is_flexible, replace, slot_value};
-use matches::{atom_under, find_alternative, is_satisfied, stands_in};
+use matches::{atom_under, find_alternative, is_satisfied, sized, stands_in};
 use rules::{Atom, Rule, Term};
 
 /// An alternative that comes too early, and the variable whose null it spares.
@@ -273,6 +273,8 @@ fn settle(
         return false;
     }
     let Some(early) = find_early(b, second_slots(sigma), rigid, &later[0..n]) else {
+        sized(a);
+        sized(b);
         *sheet = found_sheet(a, b, sigma, rigid, old);
         return true;
     };

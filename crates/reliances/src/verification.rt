@@ -1,7 +1,7 @@
 // Whether a sheet meets the definition of the relation that it is to show: a test for each condition, and nothing is
 // taken from how the sheet was made.
 ghost use Rattle.std.specs.Prelude.{◌≡◌, ◌≤◌, true, ◌++◌, length, take, Decides};
-ghost use Rattle.rules.specs.Matches.{Facts, Unsatisfied, Applies, result};
+ghost use Rattle.rules.specs.Matches.{Facts, Unsatisfied, Applies, result as result_of};
 ghost use Rattle.rules.specs.Reliances.{ShowsReliance, ShowsRestraint};
 ghost use Rattle.rules.specs.Rules.{meaning};
 ghost use Rattle.matches.specs.Lists.{look, formulas};
@@ -9,15 +9,17 @@ ghost use Rattle.reliances.specs.Sheets.{ShowsPositive, ShowsRestrained, Shows, 
 
 use crate::lists::{first_eleven, first_nine, put, put_under};
 use crate::{Kind, Sheet};
-use matches::{are_facts, has_alternative, is_alternative, is_fresh, is_match, is_satisfied};
+use matches::{
+    are_facts, has_alternative, is_alternative, is_fresh, is_match, is_satisfied, sized,
+};
 use rules::{Atom, Rule, Term};
 
 /// Whether the sheet meets the definition of the relation, for the two rules. If so, the relation holds.
 ///
 /// A list too long, an atom that is no fact, and an entry that is read but holds a variable are a no.
 pub fn verify(kind: Kind, first: &Rule, second: &Rule, sheet: &Sheet) -> bool
-    ensures* shown { λ r. ⌜ Decides r (Shows kind first.now second.now sheet.now) ⌝ }
-    ensures* holds { λ r. ⌜ (r ≡ true → Holds kind first.now second.now) ⌝ }
+    ensures shown { Decides result (Shows kind first.now second.now sheet.now) }
+    ensures holds { result ≡ true → Holds kind first.now second.now }
 {
     match kind {
         Kind::Positive => shows_positive(first, second, sheet),
@@ -26,7 +28,7 @@ pub fn verify(kind: Kind, first: &Rule, second: &Rule, sheet: &Sheet) -> bool
 }
 
 fn shows_positive(a: &Rule, b: &Rule, sheet: &Sheet) -> bool
-    ensures* { λ r. ⌜ Decides r (ShowsPositive (meaning a.now) (meaning b.now) sheet.now) ⌝ }
+    ensures { Decides result (ShowsPositive (meaning a.now) (meaning b.now) sheet.now) }
 {
     if sheet.first_len > 11 || sheet.second_len != 0 {
         return false;
@@ -35,11 +37,12 @@ fn shows_positive(a: &Rule, b: &Rule, sheet: &Sheet) -> bool
     if !are_facts(before) {
         return false;
     }
+    sized(a);
     is_new_match(a, b, before, &sheet.first_rule, &sheet.second_rule)
 }
 
 fn shows_restraint(a: &Rule, b: &Rule, sheet: &Sheet) -> bool
-    ensures* { λ r. ⌜ Decides r (ShowsRestrained (meaning a.now) (meaning b.now) sheet.now) ⌝ }
+    ensures { Decides result (ShowsRestrained (meaning a.now) (meaning b.now) sheet.now) }
 {
     if sheet.first_len > 11 || sheet.second_len > 9 {
         return false;
@@ -52,6 +55,7 @@ fn shows_restraint(a: &Rule, b: &Rule, sheet: &Sheet) -> bool
     if !are_facts(more) {
         return false;
     }
+    sized(a);
     is_new_alternative(
         a,
         b,
@@ -64,7 +68,7 @@ fn shows_restraint(a: &Rule, b: &Rule, sheet: &Sheet) -> bool
 }
 
 fn is_unsatisfied(rule: &Rule, h: &[Term], list: &[Atom]) -> bool
-    ensures* { λ r. ⌜ Decides r (Unsatisfied (meaning rule.now) (look h.now) (formulas list.now)) ⌝ }
+    ensures { Decides result (Unsatisfied (meaning rule.now) (look h.now) (formulas list.now)) }
 {
     if !is_match(rule, h, list) {
         return false;
@@ -73,7 +77,7 @@ fn is_unsatisfied(rule: &Rule, h: &[Term], list: &[Atom]) -> bool
 }
 
 fn is_applied(rule: &Rule, h: &[Term], list: &[Atom]) -> bool
-    ensures* { λ r. ⌜ Decides r (Applies (meaning rule.now) (look h.now) (formulas list.now)) ⌝ }
+    ensures { Decides result (Applies (meaning rule.now) (look h.now) (formulas list.now)) }
 {
     if !is_unsatisfied(rule, h, list) {
         return false;
@@ -84,7 +88,7 @@ fn is_applied(rule: &Rule, h: &[Term], list: &[Atom]) -> bool
 // Whether `s` is an unsatisfied match of `b` once `a` is applied by `f`, and no match before.
 fn is_new_match(a: &Rule, b: &Rule, before: &[Atom], f: &[Term], s: &[Term]) -> bool
     requires { (length before.now ≤ 11) × (Facts (formulas before.now)) }
-    ensures* { λ r. ⌜ Decides r (ShowsReliance (meaning a.now) (meaning b.now) (formulas before.now) (look f.now) (look s.now)) ⌝ }
+    ensures { Decides result (ShowsReliance (meaning a.now) (meaning b.now) (formulas before.now) (look f.now) (look s.now)) }
 {
     if !is_applied(a, f, before) {
         return false;
@@ -103,7 +107,8 @@ fn is_new_match(a: &Rule, b: &Rule, before: &[Atom], f: &[Term], s: &[Term]) -> 
 // Writes the facts on which the first rule is applied. Gives how many.
 fn put_later(b: &Rule, before: &[Atom], h: &[Term], more: &[Atom], into: &mut [Atom]) -> usize
     requires { (length before.now ≤ 11) × ((length more.now ≤ 9) × (24 ≤ length into.old)) }
-    ensures* { λ r. ⌜ r ≤ 24 ⌝ ∗ ⌜ formulas (take r into.new) ≡ result (meaning b.now) (look h.now) (formulas before.now) ++ formulas more.now ⌝ }
+    ensures few { result ≤ 24 }
+    ensures put { formulas (take result into.new) ≡ result_of (meaning b.now) (look h.now) (formulas before.now) ++ formulas more.now }
 {
     let head = b.head();
     let n = before.len();
@@ -125,8 +130,9 @@ fn is_new_alternative(
     k: &[Term],
 ) -> bool
     requires { (length before.now ≤ 11) × ((length more.now ≤ 9) × ((Facts (formulas before.now)) × (Facts (formulas more.now)))) }
-    ensures* { λ r. ⌜ Decides r (ShowsRestraint (meaning a.now) (meaning b.now) (formulas before.now) (result (meaning b.now) (look h.now) (formulas before.now) ++ formulas more.now) (look f.now) (look h.now) (look k.now)) ⌝ }
+    ensures { Decides result (ShowsRestraint (meaning a.now) (meaning b.now) (formulas before.now) (result_of (meaning b.now) (look h.now) (formulas before.now) ++ formulas more.now) (look f.now) (look h.now) (look k.now)) }
 {
+    sized(b);
     if !is_applied(b, h, before) {
         return false;
     }

@@ -13,7 +13,7 @@ loop-v-preserved c u l k s =
     ⊎_elim (λ below. c.loop-v.invariant u below k s)
     (λ above.
     let e : u ≡ c.loop-v.v = omega arith in
-    c.in-default.ensures k (subst (λ (x : ℕ). Spares (meaning c.args.rule.now) (look c.args.h.now) (formulas c.args.list.now) x k) e s))
+    c.in_default.ensures k (subst (λ (x : ℕ). Spares (meaning c.args.rule.now) (look c.args.h.now) (formulas c.args.list.now) x k) e s))
     (cases_lt u c.loop-v.v)
 
 pub returns : goal.returns

@@ -1,4 +1,4 @@
-use Rattle.std.proofs.Common.{◌≡◌, arith}
+use Rattle.std.proofs.Common.{arith}
 use Rattle.reliances.proofs.Putting.{put_start, put_more, put_done}
 use Rattle.reliances.proofs.lists.put.Goals as goal
 

@@ -1,4 +1,4 @@
-use Rattle.std.proofs.Common.{◌≡◌, arith}
+use Rattle.std.proofs.Common.{arith}
 use Rattle.matches.specs.Lists.{look, under_atom}
 use Rattle.reliances.proofs.Putting.{put_start, under_more, under_done}
 use Rattle.reliances.proofs.lists.put_under.Goals as goal

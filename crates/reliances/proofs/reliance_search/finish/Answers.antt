@@ -25,5 +25,5 @@ found_sheet-requires c =
 
 pub returns : goal.returns
 returns c =
-    found_shows c.args.a.now c.args.b.now c.args.rigid.now c.requires.0 c.args.sigma.now c.args.old.now c.found_sheet.result c.requires.1
+    found_shows c.args.a.now c.args.b.now c.args.rigid.now c.requires.0 c.args.sigma.now c.sized.ensures c.sized-2.ensures c.args.old.now c.found_sheet.result c.requires.1
     (c.is_open.ensures.0 c.if-not-is_open.false) c.found_sheet.ensures

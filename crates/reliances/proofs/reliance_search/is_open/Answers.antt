@@ -1,4 +1,4 @@
-use Rattle.std.proofs.Common.{◌≡◌, ◌+◌, ◌-◌, length, take, sym, refl, ap, ◌∙◌, arith}
+use Rattle.std.proofs.Common.{◌+◌, ◌-◌, length, take, refl, arith}
 use Rattle.std.proofs.lemmas.Bool.Decides.{not_from_Decides}
 use Rattle.rules.proofs.Membership.{decides_false}
 use Rattle.matches.specs.Lists.{formulas}
@@ -41,8 +41,8 @@ put_under-requires c =
     let l = head_few c.args.a.now.parts c.head-head.result.now c.head-head.ensures.kept c.head-head.ensures.same in
     omega (arith, l, c.put_candidate-n.ensures.0)
 
-pub slice-bounds-is_satisfied-end-2 : goal.slice-bounds-is_satisfied-end-2
-slice-bounds-is_satisfied-end-2 c =
+pub slice_bounds-is_satisfied-end-2 : goal.slice_bounds-is_satisfied-end-2
+slice_bounds-is_satisfied-end-2 c =
     let l = head_few c.args.a.now.parts c.head-head.result.now c.head-head.ensures.kept c.head-head.ensures.same in
     omega (arith, l, c.put_candidate-n.ensures.0)
 

@@ -1,4 +1,4 @@
-use Rattle.std.proofs.Common.{◌≡◌, ◌++◌, map, ◌∙◌, arith}
+use Rattle.std.proofs.Common.{◌++◌, map, ◌∙◌, arith}
 use Rattle.matches.specs.Lists.{look, under_atom}
 use Rattle.reliances.proofs.Putting.{put_two}
 use Rattle.reliances.proofs.Sizes.{body_few}

@@ -1,4 +1,4 @@
-use Rattle.std.proofs.Common.{ℕ, ◌<◌, sym, refl, ap, ◌∙◌, subst, arith}
+use Rattle.std.proofs.Common.{◌<◌, sym, ◌∙◌, arith}
 use Rattle.std.proofs.lemmas.Bool.{false≢true}
 use Rattle.rules.specs.Matches.{Assignment}
 use Rattle.rules.specs.Rules.{meaning}
@@ -20,7 +20,7 @@ loop-v-preserved-then-not-rigid-v c =
 pub loop-v-preserved : goal.loop-v-preserved
 loop-v-preserved c =
     below_more (λ v. (k : Assignment) → Spares (meaning c.args.b.now) (look c.args.h.now) (formulas c.args.list.now) v k → ⊥) c.loop-v.v c.loop-v.invariant
-    c.in-default.ensures
+    c.in_default.ensures
 
 pub returns-in-Some : goal.returns-in-Some
 returns-in-Some c = c.in-Some.ensures

@@ -1,4 +1,4 @@
-use Rattle.std.proofs.Common.{◌≡◌, ◌-◌, length, take, sym, refl, ap, ◌∙◌, arith}
+use Rattle.std.proofs.Common.{◌-◌, length, take, refl, arith}
 use Rattle.std.proofs.lemmas.Bool.Decides.{not_from_Decides}
 use Rattle.rules.proofs.Membership.{decides_false}
 use Rattle.matches.specs.Lists.{formulas}
@@ -7,8 +7,8 @@ use Rattle.reliances.proofs.Sizes.{head_few}
 use Rattle.reliances.proofs.RestraintNodes.{enough, before_is, later_is, other_is, O, rigid_shut, second_shut, firsts_shut, first_shut, open_decided}
 use Rattle.reliances.proofs.restraint_search.is_open.Goals as goal
 
-pub slice-bounds-before-end : goal.slice-bounds-before-end
-slice-bounds-before-end c =
+pub slice_bounds-before-end : goal.slice_bounds-before-end
+slice_bounds-before-end c =
     let l = enough c.args.a.now c.args.b.now c.args.sigma.now c.args.old.now c.args.list.now c.body.result.now c.requires.1 c.body.ensures.same in
     omega (arith, l)
 
@@ -72,8 +72,8 @@ pub put_other-requires : goal.put_other-requires
 put_other-requires c =
     let l = head_few c.args.b.now.parts c.head-head.result.now c.head-head.ensures.kept c.head-head.ensures.same in omega (arith, l)
 
-pub slice-bounds-some_spared-end : goal.slice-bounds-some_spared-end
-slice-bounds-some_spared-end c =
+pub slice_bounds-some_spared-end : goal.slice_bounds-some_spared-end
+slice_bounds-some_spared-end c =
     let l = head_few c.args.b.now.parts c.head-head.result.now c.head-head.ensures.kept c.head-head.ensures.same in omega (arith, l)
 
 pub returns : goal.returns

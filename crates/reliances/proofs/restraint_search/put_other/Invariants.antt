@@ -1,5 +1,4 @@
 use Rattle.std.proofs.Common.{◌≡◌, ◌+◌, ◌++◌, map, take}
-use Rattle.rules.specs.declared.Atom.{Atom}
 use Rattle.matches.specs.Lists.{look, under_atom}
 use Rattle.reliances.specs.RestraintSearch.{shift_atom}
 use Rattle.reliances.proofs.restraint_search.put_other.Given as goal

@@ -1,4 +1,4 @@
-use Rattle.std.proofs.Common.{ap, ◌∙◌, arith}
+use Rattle.std.proofs.Common.{arith}
 use Rattle.reliances.specs.RestraintSearch.{shift_atom}
 use Rattle.reliances.proofs.Putting.{put_start, under_more, under_done}
 use Rattle.reliances.proofs.restraint_search.put_shifted.Goals as goal

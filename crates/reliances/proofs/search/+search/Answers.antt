@@ -1,9 +1,9 @@
-use Rattle.std.proofs.Common.{◌≡◌, ◌+◌, ◌-◌, [], ◌∷◌, length, get_or, take, drop, set, sym, refl, ap, ◌∙◌, subst, arith, rules}
+use Rattle.std.proofs.Common.{◌≡◌, ◌+◌, ◌-◌, [], get_or, take, set, sym, refl, ap, ◌∙◌, subst, arith, rules}
 use Rattle.std.proofs.lemmas.List.{nil_from_length, take_rest, length-take, length-drop, take_all}
 use Rattle.rules.specs.Logic.{Each, formula_of}
 use Rattle.rules.specs.Rules.{meaning}
 use Rattle.matches.specs.Lists.{formulas}
-use Rattle.reliances.specs.Unification.{flags, unify_formulas}
+use Rattle.reliances.specs.Unification.{flags}
 use Rattle.reliances.specs.Following.{Node}
 use Rattle.reliances.specs.Searching.{gone, Follows, Deserted, Searched}
 use Rattle.matches.proofs.Basics.{nil-cons, heads_same}

@@ -1,4 +1,4 @@
-use Rattle.std.proofs.Common.{sym, ap, ◌∙◌, subst}
+use Rattle.std.proofs.Common.{sym, subst}
 use Rattle.rules.specs.Rules.{meaning}
 use Rattle.matches.proofs.Bounded.{bounded}
 use Rattle.reliances.specs.Unification.{rigid?, FlagsAre}

@@ -1,7 +1,6 @@
-use Rattle.std.proofs.Common.{◌≡◌, ◌<◌, length, get_or, set, sym, ap, ◌∙◌, arith}
+use Rattle.std.proofs.Common.{◌∙◌, arith}
 use Rattle.reliances.specs.Unification.{replaced}
-use Rattle.rules.specs.declared.Term.TheVariants.{Constant}
-use Rattle.reliances.proofs.Unifying.{done, done_start, done_more, done_all}
+use Rattle.reliances.proofs.Unifying.{done_start, done_more, done_all}
 use Rattle.reliances.proofs.unifier.replace.Goals as goal
 
 pub loop-i-init : goal.loop-i-init

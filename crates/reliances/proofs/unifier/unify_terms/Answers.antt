@@ -1,5 +1,5 @@
-use Rattle.std.proofs.Common.{◌≡◌, ◌<◌, Bool, true, false, sym, refl, ap, ◌∙◌, arith}
-use Rattle.reliances.specs.Unification.{flags, unify, Gave}
+use Rattle.std.proofs.Common.{◌∙◌, arith}
+use Rattle.reliances.specs.Unification.{flags}
 use Rattle.reliances.proofs.Unifying.{all_apart, all_more, all_stop, all_done}
 use Rattle.reliances.proofs.unifier.unify_terms.Goals as goal
 

@@ -17,7 +17,7 @@ returns-then-not-is_applied-2 c =
     let n = c.put_later-n.result in
     let all = c.put_later-n.new.into in
     decides_false (not_applied c.args.a.now B F M (look c.args.f.now) h (look c.args.k.now)
-    (formulas (take (n - 0) all)) (from_start n all (result (meaning B) h F ++ M) c.put_later-n.ensures.1)
+    (formulas (take (n - 0) all)) (from_start n all (result (meaning B) h F ++ M) c.put_later-n.ensures.put)
     (not_from_Decides c.is_applied-2.result c.is_applied-2.ensures c.if-not-is_applied-2.true))
 
 pub returns-then-has_alternative : goal.returns-then-has_alternative
@@ -29,18 +29,18 @@ returns-then-has_alternative c =
     let n = c.put_later-n.result in
     let all = c.put_later-n.new.into in
     decides_false (too_early c.args.a.now B F M (look c.args.f.now) h (look c.args.k.now)
-    (formulas (take (n - 0) all)) (from_start n all (result (meaning B) h F ++ M) c.put_later-n.ensures.1)
+    (formulas (take (n - 0) all)) (from_start n all (result (meaning B) h F ++ M) c.put_later-n.ensures.put)
     (c.has_alternative.ensures.0 c.if-has_alternative.true))
 
 pub put_under-requires : goal.put_under-requires
 put_under-requires c =
     let l = head_few c.args.a.now.parts c.head-head.result.now c.head-head.ensures.kept c.head-head.ensures.same in
-    omega (arith, l, c.put_later-n.ensures.0)
+    omega (arith, l, c.put_later-n.ensures.few)
 
-pub slice-bounds-is_alternative-end : goal.slice-bounds-is_alternative-end
-slice-bounds-is_alternative-end c =
+pub slice_bounds-is_alternative-end : goal.slice_bounds-is_alternative-end
+slice_bounds-is_alternative-end c =
     let l = head_few c.args.a.now.parts c.head-head.result.now c.head-head.ensures.kept c.head-head.ensures.same in
-    omega (arith, l, c.put_later-n.ensures.0)
+    omega (arith, l, c.put_later-n.ensures.few)
 
 pub returns : goal.returns
 returns c =
@@ -55,11 +55,11 @@ returns c =
     let all = c.put_later-n.new.into in
     let head = c.head-head.result.now in
     let after = c.put_under.new.into in
-    restraint_decided A B F M f h (look c.args.k.now) c.requires.1.1.0 c.requires.1.1.1
+    restraint_decided A B F M f h (look c.args.k.now) c.sized.ensures c.requires.1.1.0 c.requires.1.1.1
     (formulas (take (n - 0) all)) (formulas (take (n + length head - 0) after))
-    (from_start n all H c.put_later-n.ensures.1)
+    (from_start n all H c.put_later-n.ensures.put)
     (from_start (n + length head) after (result (meaning A) f H)
-    (put_result A f H n all after head c.put_later-n.ensures.1 c.head-head.ensures.same c.put_under.ensures))
+    (put_result A f H n all after head c.put_later-n.ensures.put c.head-head.ensures.same c.put_under.ensures))
     (c.is_applied.ensures.0 c.if-not-is_applied.false)
     (c.is_applied-2.ensures.0 c.if-not-is_applied-2.false)
     (not_from_Decides c.has_alternative.result c.has_alternative.ensures c.if-has_alternative.false)

@@ -16,8 +16,8 @@ put_under-requires c =
     let l = head_few c.args.a.now.parts c.head-head.result.now c.head-head.ensures.kept c.head-head.ensures.same in
     omega (arith, l, c.requires.0)
 
-pub slice-bounds-is_unsatisfied-end : goal.slice-bounds-is_unsatisfied-end
-slice-bounds-is_unsatisfied-end c =
+pub slice_bounds-is_unsatisfied-end : goal.slice_bounds-is_unsatisfied-end
+slice_bounds-is_unsatisfied-end c =
     let l = head_few c.args.a.now.parts c.head-head.result.now c.head-head.ensures.kept c.head-head.ensures.same in
     omega (arith, l, c.requires.0)
 

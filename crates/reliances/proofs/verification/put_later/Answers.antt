@@ -26,8 +26,8 @@ returns c =
     let head = c.head-head.result.now in
     let one = c.put.new.into in
     let two = c.put_under.new.into in
-    let put : formulas (take n one) ≡ formulas before = put_first before one c.put.ensures in (
-      omega (arith, l),
-      put_more_facts (result (meaning B) h (formulas before)) (n + length head) two c.put-2.new.into c.args.more.now
-          (put_result B h (formulas before) n one two head put c.head-head.ensures.same c.put_under.ensures) c.put-2.ensures,
-    )
+    let first : formulas (take n one) ≡ formulas before = put_first before one c.put.ensures in record {
+      few = omega (arith, l);
+      put = put_more_facts (result (meaning B) h (formulas before)) (n + length head) two c.put-2.new.into c.args.more.now
+          (put_result B h (formulas before) n one two head first c.head-head.ensures.same c.put_under.ensures) c.put-2.ensures;
+    }

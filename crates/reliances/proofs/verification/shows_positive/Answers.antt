@@ -17,4 +17,4 @@ is_new_match-requires c =
 pub returns : goal.returns
 returns c =
     positive_decided c.args.a.now c.args.b.now c.args.sheet.now c.first_eleven-before.result.now c.first_eleven-before.ensures.0
-    (omega arith) (omega arith) (c.are_facts.ensures.0 c.if-not-are_facts.false) c.is_new_match.result c.is_new_match.ensures
+    c.sized.ensures (omega arith) (omega arith) (c.are_facts.ensures.0 c.if-not-are_facts.false) c.is_new_match.result c.is_new_match.ensures

@@ -31,6 +31,6 @@ is_new_alternative-requires c = (
 pub returns : goal.returns
 returns c =
     restrained_decided c.args.a.now c.args.b.now c.args.sheet.now c.first_eleven-before.result.now c.first_eleven-before.ensures.0
-    c.first_nine-more.result.now c.first_nine-more.ensures.0 (omega arith) (omega arith)
+    c.first_nine-more.result.now c.first_nine-more.ensures.0 c.sized.ensures (omega arith) (omega arith)
     (c.are_facts.ensures.0 c.if-not-are_facts.false) (c.are_facts-2.ensures.0 c.if-not-are_facts-2.false)
     c.is_new_alternative.result c.is_new_alternative.ensures
