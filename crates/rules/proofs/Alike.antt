@@ -5,8 +5,9 @@ use Rattle.std.proofs.lemmas.Bool.Decides.{Decides-eqb, Decides-and, Decides-lik
 use Rattle.std.specs.Cmp.Lexicographic.{pointwise, pointwise_decides}
 use Rattle.rules.specs.declared.Term.{Term}
 use Rattle.rules.specs.declared.Term.TheVariants.{Constant, Variable, Null}
-use Rattle.rules.specs.Logic.{Formula}
-use Rattle.rules.specs.Same.{kind_of, number_of, same_term?, same_formula?}
+use Rattle.rules.specs.declared.Atom.{Atom}
+use Rattle.rules.specs.Logic.{Formula, formula_of}
+use Rattle.rules.specs.Same.{kind_of, number_of, same_term?, same_formula?, same_atom?}
 
 same_parts : (a b : Term) → kind_of a ≡ kind_of b → number_of a ≡ number_of b → a ≡ b
 same_parts (Constant m) (Constant n) k e = ap Constant e
@@ -32,3 +33,6 @@ same_formula_decided a b =
     Decides-like (same_formula? a b) (λ e i. record { predicate = e.0 i; terms = e.1 i })
     (λ e. (ap (λ (f : Formula). f.predicate) e, ap (λ (f : Formula). f.terms) e))
     (Decides-and (eqb a.predicate b.predicate) (pointwise same_term? a.terms b.terms) (Decides-eqb a.predicate b.predicate) (same_terms_decided a.terms b.terms))
+
+pub same_atom_decided : (a b : Atom) → Decides (same_atom? a b) (formula_of a ≡ formula_of b)
+same_atom_decided a b = same_formula_decided (formula_of a) (formula_of b)
