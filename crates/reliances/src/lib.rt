@@ -15,9 +15,7 @@ mod verification;
 pub use sheet::{Kind, Sheet};
 pub use verification::verify;
 
-/// What is said of the marked pairs of rules is right.
-pub fn marked_pairs() -> u8
+/// What is said of the marked pairs of rules is right. Nothing is computed: the contract is the statement.
+pub fn marked_pairs()
     ensures { MarkedPairs }
-{
-    0
-}
+{}
