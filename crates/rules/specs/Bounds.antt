@@ -1,5 +1,6 @@
 -- What parts make a rule: the counts that every rule keeps, as tests and in words.
-use Rattle.std.specs.Prelude.{ℕ, zero, suc, ◌+◌, ◌≤◌, Bool, true, false, cond, not, ◌&&◌, ◌||◌, List, [], ◌∷◌, take, ◌==◌, nat_le}
+use Rattle.std.specs.Prelude.{ℕ, ◌≤◌, Bool, true, false, not, ◌&&◌, List, take, ◌==◌, nat_le}
+use Rattle.std.specs.List.{list_all, list_any, count_by, range_with_len}
 use Rattle.rules.specs.declared.Term.{Term}
 use Rattle.rules.specs.declared.Term.TheVariants.{Constant, Variable, Null}
 use Rattle.rules.specs.declared.Atom.{Atom}
@@ -8,17 +9,10 @@ use Rattle.rules.specs.Logic.{Each, Formula, Implication, formula_of, implicatio
 
 -- each element passes; some element passes
 abbrev pub every : {A : Type 0} → (A → Bool) → List A → Bool
-every f [] = true
-every f (x ∷ xs) = f x && every f xs
+every = list_all
 
 abbrev pub some : {A : Type 0} → (A → Bool) → List A → Bool
-some f [] = false
-some f (x ∷ xs) = f x || some f xs
-
--- how many of the numbers below n pass
-abbrev pub how_many : (ℕ → Bool) → ℕ → ℕ
-how_many f zero = 0
-how_many f (suc n) = how_many f n + cond (f n) 1 0
+some = list_any
 
 abbrev pub is_variable? : ℕ → Term → Bool
 is_variable? v (Constant n) = false
@@ -35,7 +29,7 @@ existential? r v = some (has? v) r.head && not (some (has? v) r.body)
 
 -- how many of the variables 0 to 11 are existential
 abbrev pub existentials : Implication → ℕ
-existentials r = how_many (existential? r) 12
+existentials r = count_by (existential? r) (range_with_len 0 12)
 
 -- a rule's terms are constants, and variables numbered 0 to 11
 abbrev pub Plain : Term → Type 0

@@ -1,8 +1,10 @@
 -- What terms, atoms and rules are printed as, in bytes.
-use Rattle.std.specs.Prelude.{ℕ, Bool, true, cond, List, [], ◌∷◌, ◌++◌, map, codes, decimal}
+use Rattle.std.specs.Prelude.{ℕ, Bool, true, cond, List, [], ◌∷◌, ◌++◌, map, Option, Some, None, codes, decimal}
+use Rattle.std.specs.Borrow.{Bor}
 use Rattle.rules.specs.declared.Term.{Term}
 use Rattle.rules.specs.declared.Term.TheVariants.{Constant, Variable, Null}
-use Rattle.rules.specs.Logic.{Formula, Implication}
+use Rattle.rules.specs.declared.Atom.{Atom}
+use Rattle.rules.specs.Logic.{Formula, Implication, formula_of}
 use Rattle.rules.specs.Bounds.{some, has?}
 
 -- each text with the separator before it
@@ -33,6 +35,11 @@ formula_by universal a =
 -- the formulas, with a comma and a space between each two
 abbrev pub formulas_by : (ℕ → Bool) → List Formula → List ℕ
 formulas_by universal formulas = separated (codes ", ") (map (formula_by universal) formulas)
+
+-- in a rule with this body a variable is universal where it stands in it; outside of a rule each one is taken for such
+abbrev pub letters_by : Option (Bor (List Atom)) → ℕ → Bool
+letters_by None v = true
+letters_by (Some body) v = some (has? v) (map formula_of body.now)
 
 -- outside of a rule each variable has the letter x
 abbrev pub term_text : Term → List ℕ

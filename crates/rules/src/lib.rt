@@ -1,18 +1,18 @@
 //! Terms, atoms and rules: the plain types, what they mean, and how they are printed.
 #![tactic(auto)]
 
-mod equality;
+mod args;
 mod made;
 mod parts;
 mod rule;
 mod show;
 
-pub use equality::first_terms;
+pub use args::first;
 pub use parts::RuleParts;
 pub use rule::Rule;
 
 /// What an atom is about.
-#[derive(Clone, Copy, PartialEq)]
+#[derive(Clone, Copy, PartialEq, Eq)]
 pub enum Term {
     /// A named thing.
     Constant(u16),
@@ -27,14 +27,6 @@ pub enum Term {
 pub struct Atom {
     pub predicate: u16,
     pub arity: u8,
+    // An array with its count beside: an atom takes no memory but its own, and a reader sees what stands in it.
     pub terms: [Term; 4],
-}
-
-impl Atom {
-    /// What stands in a place that holds no atom yet.
-    pub const BLANK: Atom = Atom {
-        predicate: 0,
-        arity: 0,
-        terms: [Term::Constant(0); 4],
-    };
 }

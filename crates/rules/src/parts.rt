@@ -1,8 +1,13 @@
-use crate::Atom;
+ghost use Rattle.std.specs.Prelude.{◌≡◌, map};
+ghost use Rattle.rules.specs.Logic.{formula_of, implication_of};
+ghost use Rattle.rules.specs.Bounds.{every, some, has?, plain?, rule_atom?, existential?, existentials, makes_rule?, body_of, head_of};
+
+use crate::{Atom, Term, first};
 
 /// The parts of a rule before anything is checked: the first `bodies` and the first `heads` atoms count.
 #[derive(Clone, Copy)]
 pub struct RuleParts {
+    // Arrays with their counts beside: nothing is allocated, and a reader can fill them before anything is checked.
     pub body: [Atom; 6],
     pub bodies: u8,
     pub head: [Atom; 4],
@@ -17,4 +22,86 @@ impl RuleParts {
         head: [Atom::BLANK; 4],
         heads: 0,
     };
+
+    /// The body atoms that count.
+    pub(crate) fn body(&self) -> &[Atom]
+        ensures { result.now ≡ body_of self.now }
+    {
+        first(&self.body, self.bodies)
+    }
+
+    /// The head atoms that count.
+    pub(crate) fn head(&self) -> &[Atom]
+        ensures { result.now ≡ head_of self.now }
+    {
+        first(&self.head, self.heads)
+    }
+
+    /// Whether the variable stands in the body.
+    pub(crate) fn is_in_body(&self, v: u16) -> bool
+        ensures { result ≡ some (has? v) (implication_of self.now).body }
+    {
+        have(self.body(), v)
+    }
+
+    /// Whether the variable stands in the head, and not in the body.
+    pub(crate) fn is_only_in_head(&self, v: u16) -> bool
+        ensures { result ≡ existential? (implication_of self.now) v }
+    {
+        have(self.head(), v) && !self.is_in_body(v)
+    }
+
+    fn count_existentials(&self) -> usize
+        ensures { result ≡ existentials (implication_of self.now) }
+    {
+        (0..12).filter(|v| self.is_only_in_head(*v)).count()
+    }
+
+    /// Whether they make a rule.
+    pub(crate) fn make_rule(&self) -> bool
+        ensures { result ≡ makes_rule? self.now }
+    {
+        1 <= self.bodies
+            && self.bodies <= 6
+            && 1 <= self.heads
+            && self.heads <= 4
+            && are_rule_atoms(self.body())
+            && are_rule_atoms(self.head())
+            && self.count_existentials() <= 4
+    }
+}
+
+/// Whether the variable stands in one of the atoms.
+pub(crate) fn have(atoms: &[Atom], v: u16) -> bool
+    ensures { result ≡ some (has? v) (map formula_of atoms.now) }
+{
+    atoms.iter().any(|a| a.has(v))
+}
+
+fn is_plain(t: &Term) -> bool
+    ensures { result ≡ plain? t.now }
+{
+    match *t {
+        Term::Constant(_) => true,
+        Term::Variable(n) => n <= 11,
+        Term::Null(_) => false,
+    }
+}
+
+fn is_rule_atom(a: &Atom) -> bool
+    ensures { result ≡ rule_atom? a.now }
+{
+    1 <= a.arity && a.arity <= 4 && are_plain(a.args())
+}
+
+fn are_plain(terms: &[Term]) -> bool
+    ensures { result ≡ every plain? terms.now }
+{
+    terms.iter().all(is_plain)
+}
+
+fn are_rule_atoms(atoms: &[Atom]) -> bool
+    ensures { result ≡ every rule_atom? atoms.now }
+{
+    atoms.iter().all(is_rule_atom)
 }

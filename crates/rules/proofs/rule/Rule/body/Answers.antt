@@ -1,5 +1,5 @@
 use Rattle.rules.proofs.Bounded.{makes_rule_decided}
 use Rattle.rules.proofs.rule.Rule.body.Goals as goal
 
-pub returns : goal.returns
-returns c = record { same = c.first_six.ensures; kept = (makes_rule_decided c.args.self.now.parts).0 c.args.self.now.kept }
+pub returns-clause-kept : goal.returns-clause-kept
+returns-clause-kept c = (makes_rule_decided c.args.self.now.parts).0 c.args.self.now.kept

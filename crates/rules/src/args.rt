@@ -1,0 +1,51 @@
+ghost use Rattle.std.specs.Prelude.{◌≡◌, take, Decides};
+ghost use Rattle.rules.specs.Logic.{formula_of};
+ghost use Rattle.rules.specs.Bounds.{has?};
+ghost use Rattle.rules.specs.Same.{same_atom?, same_atom_laws};
+
+use crate::{Atom, Term};
+
+impl Atom {
+    /// What stands in a place that holds no atom yet.
+    pub const BLANK: Atom = Atom {
+        predicate: 0,
+        arity: 0,
+        terms: [Term::Constant(0); 4],
+    };
+
+    /// The terms that count: as many as the arity says, or all four.
+    pub fn args(&self) -> &[Term]
+        ensures { result.now ≡ (formula_of self.now).terms }
+    {
+        first(&self.terms, self.arity)
+    }
+
+    /// Whether the variable is one of the terms that count.
+    pub(crate) fn has(&self, v: u16) -> bool
+        ensures { result ≡ has? v (formula_of self.now) }
+    {
+        self.args().contains(&Term::Variable(v))
+    }
+}
+
+/// The first `n` of the elements, or all of them.
+pub fn first<T>(xs: &[T], n: u8) -> &[T]
+    ensures { result.now ≡ take n xs.now }
+{
+    xs.get(..n as usize).unwrap_or(xs)
+}
+
+/// Two atoms are equal where they have the same predicate and the same terms up to their arity. A derive would compare
+/// the terms past it too.
+impl PartialEq for Atom {
+    ghost eq = { same_atom? };
+
+    ghost laws = { same_atom_laws };
+
+    fn eq(&self, other: &Atom) -> bool
+        ensures value { result ≡ same_atom? self.now other.now }
+        ensures decides { Decides result (formula_of self.now ≡ formula_of other.now) }
+    {
+        self.predicate == other.predicate && self.args() == other.args()
+    }
+}
