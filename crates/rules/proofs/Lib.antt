@@ -1,3 +1,4 @@
+pub mod Loops
 pub mod Mapped
 pub mod Membership
 pub mod Alike
