@@ -27,4 +27,3 @@ module _ {A : Type 0} (p : A → Bool) (xs : List A) (i : ℕ) where
 pub some-map : {A B : Type 0} (f : A → B) (p : B → Bool) (xs : List A) → some p (map f xs) ≡ some (λ x. p (f x)) xs
 some-map f p [] = refl
 some-map f p (x ∷ xs) = ap (λ (b : Bool). p (f x) || b) (some-map f p xs)
-

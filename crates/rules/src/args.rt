@@ -1,4 +1,4 @@
-ghost use Rattle.std.specs.Prelude.{◌≡◌, take, Decides};
+ghost use Rattle.std.specs.Prelude.{◌≡◌, [], take, Decides};
 ghost use Rattle.rules.specs.Logic.{formula_of};
 ghost use Rattle.rules.specs.Bounds.{has?};
 ghost use Rattle.rules.specs.Same.{same_atom?, same_atom_laws};
@@ -33,6 +33,15 @@ pub fn first<T>(xs: &[T], n: u8) -> &[T]
     ensures { result.now ≡ take n xs.now }
 {
     xs.get(..n as usize).unwrap_or(xs)
+}
+
+/// An atom of no terms.
+impl Default for Atom {
+    ghost is_default = { λ a. formula_of a ≡ record { predicate = 0; terms = [] } };
+
+    fn default() -> Atom {
+        Atom::BLANK
+    }
 }
 
 /// Two atoms are equal where they have the same predicate and the same terms up to their arity. A derive would compare
