@@ -9,13 +9,13 @@ ghost use Rattle.faults.specs.Faults.{atom_fault, entry_fault, in_volume, entry_
 mod show;
 
 /// The bytes ended inside a field. The place is where they end.
-#[derive(Clone, Copy, PartialEq)]
+#[derive(Clone, Copy, PartialEq, Eq, Debug)]
 pub struct Cut {
     pub place: usize,
 }
 
 /// What is wrong with a term.
-#[derive(Clone, Copy, PartialEq)]
+#[derive(Clone, Copy, PartialEq, Eq, Debug)]
 pub enum TermFault {
     Ended(Cut),
     /// The kind is not one that may stand here.
@@ -25,7 +25,7 @@ pub enum TermFault {
 }
 
 /// What is wrong with an atom.
-#[derive(Clone, Copy, PartialEq)]
+#[derive(Clone, Copy, PartialEq, Eq, Debug)]
 pub enum AtomFault {
     CutShort(Cut),
     /// The arity is not 1 to 4.
@@ -34,7 +34,7 @@ pub enum AtomFault {
 }
 
 /// What is wrong with an entry of the contents: a rule or a fact.
-#[derive(Clone, Copy, PartialEq)]
+#[derive(Clone, Copy, PartialEq, Eq, Debug)]
 pub enum EntryFault {
     EntryEnded(Cut),
     /// The count of body atoms or that of head atoms is not allowed.
@@ -47,7 +47,7 @@ pub enum EntryFault {
 }
 
 /// What is wrong with a volume.
-#[derive(Clone, Copy, PartialEq)]
+#[derive(Clone, Copy, PartialEq, Eq, Debug)]
 pub enum VolumeFault {
     /// Shorter than its head or its contents.
     Short,
@@ -65,7 +65,7 @@ pub enum VolumeFault {
 }
 
 /// The first fault of a volume: what is wrong, by layers; the index in the contents, or 0; and the place in the bytes.
-#[derive(Clone, Copy, PartialEq)]
+#[derive(Clone, Copy, PartialEq, Eq, Debug)]
 pub struct Fault {
     pub layer: VolumeFault,
     pub index: usize,
@@ -73,12 +73,13 @@ pub struct Fault {
 }
 
 /// An entry's fault with the entry's index in the contents.
-#[derive(Clone, Copy)]
+#[derive(Clone, Copy, PartialEq, Eq, Debug)]
 pub struct EntryAt {
     pub index: usize,
     pub fault: EntryFault,
 }
 
+// Each From is written out, since a clause has to know which variant a `?` makes.
 impl From<Cut> for TermFault {
     ghost from_gives = { λ c r. r ≡ Ended c };
 
@@ -172,6 +173,7 @@ impl EntryFault {
 }
 
 impl Fault {
+    // A number, and no enum of its own: the layers already tell the refusals apart, and what is printed is the number.
     /// The refusal's number, 1 to 10.
     pub fn number(self) -> u8
         ensures { result ≡ number_of self.layer }
@@ -194,6 +196,7 @@ impl Fault {
         }
     }
 
+    // A number for the same reason.
     /// The rank of the fault's layer: volume 1, contents 2, rule or fact 3, atom 4, term 5.
     pub fn rank(self) -> u8
         ensures { result ≡ rank_of self.layer }
