@@ -4,7 +4,7 @@ use Rattle.std.proofs.lemmas.Bool.Decides.{nat_tests}
 use Rattle.std.proofs.lemmas.Bool.{cases_lt, le-leb}
 use Rattle.rules.specs.declared.Term.{Term}
 use Rattle.rules.specs.Logic.{Formula}
-use Rattle.volumes.specs.declared.VolumeKind.{VolumeKind}
+use Rattle.volumes.specs.declared.kind.VolumeKind.{VolumeKind}
 use Rattle.faults.specs.declared.TermFault.{TermFault}
 use Rattle.faults.specs.declared.AtomFault.{AtomFault}
 use Rattle.faults.specs.declared.AtomFault.TheVariants.{CutShort, Arity}

@@ -1,7 +1,7 @@
 -- The count of a volume is read exactly where its contents are whole, and a fault is the first one before them.
 use Rattle.std.proofs.Common.{◌≡◌, ℕ, zero, suc, ◌+◌, ◌*◌, ◌<◌, ◌≤◌, cond, ◌⊎◌, List, length, Ok, Err, Result, sym, refl, ap, ◌∙◌, subst, inl, inr, ⊎_elim, arith}
 use Rattle.std.proofs.lemmas.Bool.{cases_lt, cases_eq, le-leb, lt-leb, eq-eqb, ne_eqb, lt-ltb, le-ltb}
-use Rattle.volumes.specs.declared.VolumeKind.{VolumeKind}
+use Rattle.volumes.specs.declared.kind.VolumeKind.{VolumeKind}
 use Rattle.faults.specs.declared.VolumeFault.TheVariants.{Short, FirstByte, TooMany, NotRising}
 use Rattle.faults.specs.declared.Fault.{Fault}
 use Rattle.faults.specs.Faults.{fault}

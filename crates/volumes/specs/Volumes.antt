@@ -6,7 +6,8 @@ use Rattle.rules.specs.Rules.{meaning}
 use Rattle.volumes.specs.declared.volume.RuleVolume.{RuleVolume}
 use Rattle.volumes.specs.declared.volume.FactVolume.{FactVolume}
 use Rattle.volumes.specs.declared.volume.NumberedRule.{NumberedRule}
-use Rattle.volumes.specs.declared.cursor.RuleAtoms.{RuleAtoms}
+use Rattle.volumes.specs.declared.cursor.Cursor.{Cursor}
+use Rattle.volumes.specs.declared.items.RuleAtoms.{RuleAtoms}
 use Rattle.volumes.specs.Layout.{Numbered, rules_end}
 use Rattle.volumes.specs.Answers.{taken}
 use Rattle.volumes.specs.Handing.{HandsOut}
@@ -27,6 +28,11 @@ Nth {A} xs i x = (i < length xs) × ((d : A) → slice_index_or xs i d ≡ x)
 abbrev pub numbered : NumberedRule → Numbered
 numbered x = record { number = x.number; rule = meaning x.rule }
 
+-- the cursor at the first byte of the rule of index i, which ends where the rule does, or none where there are not so many
+abbrev pub RulePart : RuleVolume → ℕ → Option Cursor → Type 0
+RulePart v i (Some c) = (i < v.count) × (c.bytes.now ≡ v.bytes.now) × (c.place ≡ rules_end v.bytes.now i) × (c.end ≡ rules_end v.bytes.now (i + 1))
+RulePart v i None = v.count ≤ i
+
 -- the rule of index i, or none where there are not so many
 abbrev pub RuleHad : List Numbered → ℕ → Option NumberedRule → Type 0
 RuleHad xs i (Some x) = Nth xs i (numbered x)
@@ -39,6 +45,6 @@ FactHad xs i None = length xs ≤ i
 
 -- the reader of the atoms of the rule of index i, or one that is at its end where there are not so many
 pub record AtomsHad (v : RuleVolume) (i : ℕ) (a : RuleAtoms) : Type 0 where
-  pub bytes : a.bytes.now ≡ v.bytes.now
-  pub hands : (x : Numbered) → Nth (rules_of v) i x → (a.place ≡ rules_end v.bytes.now i + 2) × HandsOut a x.rule
+  pub bytes : a.cursor.bytes.now ≡ v.bytes.now
+  pub hands : (x : Numbered) → Nth (rules_of v) i x → (a.cursor.place ≡ rules_end v.bytes.now i + 2) × HandsOut a x.rule
   pub none : length (rules_of v) ≤ i → (a.bodies ≡ 0) × (a.heads ≡ 0)

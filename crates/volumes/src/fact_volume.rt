@@ -1,50 +1,49 @@
 //! Fact volumes.
 ghost use Rattle.std.specs.Prelude.{◌≡◌, ◌+◌, ◌*◌, ◌<◌, ◌≤◌, List, length, IfOk, Ok, Err, MatchResult};
 ghost use Rattle.rules.specs.Logic.{Formula, formula_of};
-ghost use Rattle.volumes.specs.declared.VolumeKind.TheVariants.{Facts};
-ghost use Rattle.volumes.specs.Layout.{ContentsWhole, count as count_of, FactVolumeSays};
-ghost use Rattle.faults.specs.Faults.{entry_fault};
-ghost use Rattle.volumes.specs.Reading.{read_atom, read_fact_entry, read_fact_entries, read_facts};
+ghost use Rattle.volumes.specs.declared.kind.VolumeKind.TheVariants.{Facts};
+ghost use Rattle.volumes.specs.Layout.{ContentsWhole, count as count_of, fact_place as place_of, span, FactVolumeSays};
+ghost use Rattle.volumes.specs.Moves.{Past};
+ghost use Rattle.volumes.specs.Reading.{read_fact_entry, read_fact_entries, read_facts};
 ghost use Rattle.volumes.specs.Answers.{Checked, TakenUp, counted};
 ghost use Rattle.volumes.specs.Volumes.{facts_of, FactHad};
 
-use crate::VolumeKind;
-use crate::atom::read_atom;
-use crate::contents::read_count;
+use crate::contents::{read_count, volume_fault};
+use crate::cursor::Cursor;
 use crate::fields::pair_at;
+use crate::kind::VolumeKind;
 use crate::volume::FactVolume;
-use faults::{AtomFault, EntryAt, Fault, VolumeFault};
+use faults::{EntryAt, Fault, VolumeFault};
 use rules::Atom;
 
-/// The atom of the fact that begins at `p` and has this index in the contents.
-fn fact_atom(bytes: &[u8], index: usize, p: usize) -> Result<Atom, EntryAt>
-    requires { p ≤ length bytes.now }
-    ensures value { MatchResult result (λ a. read_atom Facts bytes.now (length bytes.now) p ≡ Ok (formula_of a)) (λ f. (f.index ≡ index) × ((a : AtomFault) × (f.fault ≡ entry_fault a) × (read_atom Facts bytes.now (length bytes.now) p ≡ Err a))) }
-    ensures within { IfOk result (λ a. (p + (3 + 3 * a.arity) ≤ length bytes.now) × (length (formula_of a).terms ≡ a.arity)) }
+/// Where the fact of this index begins, as the contents say.
+fn fact_place(bytes: &[u8], index: usize) -> usize
+    requires { 3 + 2 * index + 2 ≤ length bytes.now }
+    ensures { result ≡ place_of bytes.now index }
 {
-    match read_atom(VolumeKind::Facts, bytes, bytes.len(), p) {
-        Ok(atom) => Ok(atom),
-        Err(fault) => Err(EntryAt {
-            index,
-            fault: fault.into(),
-        }),
-    }
+    pair_at(bytes, 3 + 2 * index) as usize
 }
 
-/// The fact of this index in the contents, where the one before it ends at `p`.
-fn fact_at(bytes: &[u8], index: usize, p: usize) -> Result<Atom, Fault>
-    requires { (p ≤ length bytes.now) × (3 + 2 * index + 2 ≤ length bytes.now) }
-    ensures value { MatchResult result (λ a. read_fact_entry bytes.now index p ≡ Ok (formula_of a)) (λ f. read_fact_entry bytes.now index p ≡ Err f) }
-    ensures within { IfOk result (λ a. (p + (3 + 3 * a.arity) ≤ length bytes.now) × (length (formula_of a).terms ≡ a.arity)) }
-{
-    if pair_at(bytes, 3 + 2 * index) as usize != p {
-        return Err(Fault {
-            layer: VolumeFault::Misplaced,
+impl<'a> Cursor<'a> {
+    /// The fact of this index in the contents, where the one before it ends here.
+    fn fact(&mut self, index: usize) -> Result<Atom, Fault>
+        requires { (self.old.end ≡ length self.old.bytes.now) × (3 + 2 * index + 2 ≤ length self.old.bytes.now) }
+        ensures value { MatchResult result (λ a. read_fact_entry self.old.bytes.now index self.old.place ≡ Ok (formula_of a)) (λ f. read_fact_entry self.old.bytes.now index self.old.place ≡ Err f) }
+        ensures moved { IfOk result (λ a. Past self.old (span (formula_of a)) self.new) }
+    {
+        if fact_place(self.bytes, index) != self.place {
+            return Err(Fault {
+                layer: VolumeFault::Misplaced,
+                index,
+                place: 3 + 2 * index,
+            });
+        }
+        let atom = self.atom(VolumeKind::Facts).map_err(|fault| EntryAt {
             index,
-            place: 3 + 2 * index,
-        });
+            fault: fault.into(),
+        })?;
+        Ok(atom)
     }
-    Ok(fact_atom(bytes, index, p)?)
 }
 
 /// Where the last fact ends, if each stands as the contents say.
@@ -52,12 +51,15 @@ fn facts_end(bytes: &[u8], count: usize) -> Result<usize, Fault>
     requires { (ContentsWhole Facts bytes.now) × (count ≡ count_of bytes.now) }
     ensures { MatchResult result (λ q. (xs : List Formula) × (length xs ≡ count) × (read_fact_entries bytes.now ≡ Ok (xs, q))) (λ f. read_fact_entries bytes.now ≡ Err f) }
 {
-    let mut p = 3 + 2 * count;
-    for i in 0..count {
-        let atom = fact_at(bytes, i, p)?;
-        p += 3 + 3 * atom.arity as usize;
+    let mut cursor = Cursor {
+        bytes,
+        place: 3 + 2 * count,
+        end: bytes.len(),
+    };
+    for index in 0..count {
+        cursor.fact(index)?;
     }
-    Ok(p)
+    Ok(cursor.place)
 }
 
 fn count_facts(bytes: &[u8]) -> Result<usize, Fault>
@@ -66,11 +68,7 @@ fn count_facts(bytes: &[u8]) -> Result<usize, Fault>
     let count = read_count(VolumeKind::Facts, bytes)?;
     let end = facts_end(bytes, count)?;
     if end != bytes.len() {
-        return Err(Fault {
-            layer: VolumeFault::Ends,
-            index: 0,
-            place: end,
-        });
+        return Err(volume_fault(VolumeFault::Ends, end));
     }
     Ok(count)
 }
@@ -88,10 +86,7 @@ impl<'a> FactVolume<'a> {
         ensures facts { TakenUp (FactVolumeSays bytes.now) (facts_of result) }
         ensures same { result.bytes.now ≡ bytes.now }
     {
-        let count = match count_facts(bytes) {
-            Ok(n) => n,
-            Err(_) => 0,
-        };
+        let count = count_facts(bytes).unwrap_or(0);
         FactVolume { bytes, count }
     }
 
@@ -109,10 +104,11 @@ impl<'a> FactVolume<'a> {
         if index >= self.count {
             return None;
         }
-        let place = pair_at(self.bytes, 3 + 2 * index) as usize;
-        match read_atom(VolumeKind::Facts, self.bytes, self.bytes.len(), place) {
-            Ok(atom) => Some(atom),
-            Err(_) => unreachable(),
-        }
+        let mut cursor = Cursor {
+            bytes: self.bytes,
+            place: fact_place(self.bytes, index),
+            end: self.bytes.len(),
+        };
+        Some(cursor.atom(VolumeKind::Facts).unwrap())
     }
 }

@@ -1,19 +1,35 @@
 //! Rule volumes.
 ghost use Rattle.std.specs.Prelude.{◌≡◌, ℕ, ◌+◌, ◌-◌, ◌*◌, ◌<◌, ◌≤◌, List, length, Ok, Err, MatchResult};
-ghost use Rattle.rules.specs.Logic.{Implication};
-ghost use Rattle.volumes.specs.declared.VolumeKind.TheVariants.{Rules};
-ghost use Rattle.volumes.specs.Layout.{Numbered, contents_end, count as count_of, rules_end, ContentsWhole, RuleVolumeSays};
-ghost use Rattle.volumes.specs.Reading.{read_rising, read_rule, read_rule_entries, read_rules};
+ghost use Rattle.volumes.specs.declared.kind.VolumeKind.TheVariants.{Rules};
+ghost use Rattle.volumes.specs.Layout.{Numbered, contents_end, count as count_of, number as number_of, extent as extent_of, rules_end, ContentsWhole, RuleVolumeSays};
+ghost use Rattle.volumes.specs.Reading.{read_rising, read_rule_entries, read_rules};
 ghost use Rattle.volumes.specs.Answers.{Checked, TakenUp, counted};
-ghost use Rattle.volumes.specs.Volumes.{rules_of, RuleHad, AtomsHad};
+ghost use Rattle.volumes.specs.Volumes.{rules_of, RulePart, RuleHad, AtomsHad};
 
-use crate::VolumeKind;
-use crate::contents::read_count;
-use crate::cursor::RuleAtoms;
+use crate::contents::{read_count, volume_fault};
+use crate::cursor::Cursor;
 use crate::fields::pair_at;
-use crate::rule::read_rule;
+use crate::items::RuleAtoms;
+use crate::kind::VolumeKind;
 use crate::volume::{NumberedRule, RuleVolume};
 use faults::{EntryAt, Fault, VolumeFault};
+
+/// The number of the rule of this index.
+fn number(bytes: &[u8], index: usize) -> u16
+    requires { 3 + 4 * index + 2 ≤ length bytes.now }
+    ensures { result ≡ number_of bytes.now index }
+{
+    pair_at(bytes, 3 + 4 * index)
+}
+
+/// How many bytes the rule of this index has.
+fn extent(bytes: &[u8], index: usize) -> usize
+    requires { 5 + 4 * index + 2 ≤ length bytes.now }
+    ensures value { result ≡ extent_of bytes.now index }
+    ensures few { result ≤ 65535 }
+{
+    pair_at(bytes, 5 + 4 * index) as usize
+}
 
 /// Whether each number is above the one before it.
 fn check_rising(bytes: &[u8], count: usize) -> Result<(), Fault>
@@ -21,7 +37,7 @@ fn check_rising(bytes: &[u8], count: usize) -> Result<(), Fault>
     ensures { result ≡ read_rising bytes.now 0 (count - 1) }
 {
     for i in 1..count {
-        if pair_at(bytes, 3 + 4 * (i - 1)) >= pair_at(bytes, 3 + 4 * i) {
+        if number(bytes, i - 1) >= number(bytes, i) {
             return Err(Fault {
                 layer: VolumeFault::NotRising,
                 index: i,
@@ -39,20 +55,9 @@ fn rules_end(bytes: &[u8], n: usize) -> usize
 {
     let mut end = 3 + 4 * pair_at(bytes, 1) as usize;
     for i in 0..n {
-        end += pair_at(bytes, 5 + 4 * i) as usize;
+        end += extent(bytes, i);
     }
     end
-}
-
-/// The rule in the bytes from `start` to `end`, which has this index in the contents.
-fn rule_at(bytes: &[u8], index: usize, end: usize, start: usize) -> Result<(), EntryAt>
-    requires { (start ≤ end) × (end ≤ length bytes.now) }
-    ensures { MatchResult result (λ _. (x : Implication) × (read_rule bytes.now end start ≡ Ok x)) (λ f. (f.index ≡ index) × (read_rule bytes.now end start ≡ Err f.fault)) }
-{
-    match read_rule(bytes, end, start) {
-        Ok(_) => Ok(()),
-        Err(fault) => Err(EntryAt { index, fault }),
-    }
 }
 
 /// Whether each rule stands as the contents say.
@@ -60,11 +65,14 @@ fn check_bodies(bytes: &[u8], count: usize) -> Result<(), Fault>
     requires { (ContentsWhole Rules bytes.now) × ((rules_end bytes.now count ≡ length bytes.now) × (count ≡ count_of bytes.now)) }
     ensures { MatchResult result (λ _. (xs : List Numbered) × (q : ℕ) × (length xs ≡ count) × (read_rule_entries bytes.now ≡ Ok (xs, q))) (λ f. read_rule_entries bytes.now ≡ Err f) }
 {
-    let mut start = 3 + 4 * count;
-    for i in 0..count {
-        let end = start + pair_at(bytes, 5 + 4 * i) as usize;
-        rule_at(bytes, i, end, start)?;
-        start = end;
+    let mut place = 3 + 4 * count;
+    for index in 0..count {
+        let end = place + extent(bytes, index);
+        let rule = Cursor { bytes, place, end };
+        if let Err(fault) = rule.rule() {
+            return Err(EntryAt { index, fault }.into());
+        }
+        place = end;
     }
     Ok(())
 }
@@ -76,11 +84,7 @@ fn count_rules(bytes: &[u8]) -> Result<usize, Fault>
     check_rising(bytes, count)?;
     let end = rules_end(bytes, count);
     if end != bytes.len() {
-        return Err(Fault {
-            layer: VolumeFault::Ends,
-            index: 0,
-            place: end,
-        });
+        return Err(volume_fault(VolumeFault::Ends, end));
     }
     check_bodies(bytes, count)?;
     Ok(count)
@@ -99,10 +103,7 @@ impl<'a> RuleVolume<'a> {
         ensures rules { TakenUp (RuleVolumeSays bytes.now) (rules_of result) }
         ensures same { result.bytes.now ≡ bytes.now }
     {
-        let count = match count_rules(bytes) {
-            Ok(n) => n,
-            Err(_) => 0,
-        };
+        let count = count_rules(bytes).unwrap_or(0);
         RuleVolume { bytes, count }
     }
 
@@ -113,44 +114,38 @@ impl<'a> RuleVolume<'a> {
         self.count
     }
 
-    /// The rule of an index in the contents with its number, or none where there are not so many.
-    pub fn rule(&self, index: usize) -> Option<NumberedRule>
-        ensures { RuleHad (rules_of self.now) index result }
+    /// The bytes of the rule of an index, or none where there are not so many.
+    fn part(&self, index: usize) -> Option<Cursor<'a>>
+        ensures { RulePart self.now index result }
     {
         if index >= self.count {
             return None;
         }
-        let start = rules_end(self.bytes, index);
-        let end = rules_end(self.bytes, index + 1);
-        let number = pair_at(self.bytes, 3 + 4 * index);
-        match read_rule(self.bytes, end, start) {
-            Ok(rule) => Some(NumberedRule { number, rule }),
-            Err(_) => unreachable(),
-        }
+        Some(Cursor {
+            bytes: self.bytes,
+            place: rules_end(self.bytes, index),
+            end: rules_end(self.bytes, index + 1),
+        })
+    }
+
+    /// The rule of an index in the contents with its number, or none where there are not so many.
+    pub fn rule(&self, index: usize) -> Option<NumberedRule>
+        ensures { RuleHad (rules_of self.now) index result }
+    {
+        let part = self.part(index)?;
+        Some(NumberedRule {
+            number: number(self.bytes, index),
+            rule: part.rule().unwrap(),
+        })
     }
 
     /// The reader of the atoms of the rule of an index; one that is at its end where there are not so many.
     pub fn atoms(&self, index: usize) -> RuleAtoms<'a>
         ensures { AtomsHad self.now index result }
     {
-        let bytes = self.bytes;
-        if index >= self.count {
-            return RuleAtoms {
-                bytes,
-                place: 0,
-                end: 0,
-                bodies: 0,
-                heads: 0,
-            };
-        }
-        let start = rules_end(bytes, index);
-        let end = rules_end(bytes, index + 1);
-        RuleAtoms {
-            bytes,
-            place: start + 2,
-            end,
-            bodies: bytes[start],
-            heads: bytes[start + 1],
+        match self.part(index) {
+            Some(part) => part.rule_atoms().unwrap(),
+            None => RuleAtoms::none(self.bytes),
         }
     }
 }

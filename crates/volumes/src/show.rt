@@ -2,7 +2,7 @@ ghost use Rattle.std.specs.Prelude.{Some};
 ghost use Rattle.volumes.specs.Volumes.{rules_of, facts_of};
 ghost use Rattle.volumes.specs.Text.{rules_text, facts_text};
 
-use crate::volume::{FactVolume, RuleVolume};
+use crate::volume::{FactVolume, NumberedRule, RuleVolume};
 use std::fmt;
 
 impl<'a> fmt::Display for RuleVolume<'a> {
@@ -10,11 +10,7 @@ impl<'a> fmt::Display for RuleVolume<'a> {
 
     fn fmt<W: fmt::Write>(&self, f: &mut fmt::Formatter<W>) -> fmt::Result {
         for i in 0..self.count() {
-            let Some(entry) = self.rule(i) else {
-                unreachable()
-            };
-            let number = entry.number;
-            let rule = entry.rule;
+            let NumberedRule { number, rule } = self.rule(i).unwrap();
             writeln!(f, "{number}: {rule}")?;
         }
         Ok(())
@@ -26,9 +22,7 @@ impl<'a> fmt::Display for FactVolume<'a> {
 
     fn fmt<W: fmt::Write>(&self, f: &mut fmt::Formatter<W>) -> fmt::Result {
         for i in 0..self.count() {
-            let Some(fact) = self.fact(i) else {
-                unreachable()
-            };
+            let fact = self.fact(i).unwrap();
             writeln!(f, "{fact}")?;
         }
         Ok(())

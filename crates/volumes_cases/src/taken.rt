@@ -154,9 +154,9 @@ fn placed_text(heap: Global, part: &str, placed: Placed<'_>) -> Result<String, A
 
 fn item_text(heap: Global, atoms: &mut RuleAtoms<'_>) -> Result<String, AllocError> {
     match atoms.next_item() {
-        Ok(Item::Body(placed)) => placed_text(heap, "body", placed),
-        Ok(Item::Head(placed)) => placed_text(heap, "head", placed),
-        Ok(Item::End) => String::from_str(heap, "end"),
+        Ok(Some(Item::Body(placed))) => placed_text(heap, "body", placed),
+        Ok(Some(Item::Head(placed))) => placed_text(heap, "head", placed),
+        Ok(None) => String::from_str(heap, "end"),
         Err(_) => String::from_str(heap, "fault"),
     }
 }

@@ -4,7 +4,7 @@ use Rattle.volumes.specs.Reading.{read_rule_entry}
 use Rattle.volumes.proofs.Loops.{Reads}
 use Rattle.volumes.proofs.rule_volume.check_bodies.Given as goal
 
-abbrev pub invariant-loop-i : goal.invariant-loop-i
-invariant-loop-i l =
-    (l.start ≡ rules_end l.bytes l.i)
-    × ((xs : List Numbered) × (length xs ≡ l.i) × Reads (read_rule_entry l.bytes) (λ i s _. s + extent l.bytes i) (3 + 4 * l.count) xs l.start)
+abbrev pub invariant-loop-index : goal.invariant-loop-index
+invariant-loop-index l =
+    (l.place ≡ rules_end l.bytes l.index)
+    × ((xs : List Numbered) × (length xs ≡ l.index) × Reads (read_rule_entry l.bytes) (λ i s _. s + extent l.bytes i) (3 + 4 * l.count) xs l.place)

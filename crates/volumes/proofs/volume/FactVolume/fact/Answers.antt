@@ -1,26 +1,19 @@
 use Rattle.std.proofs.Common.{arith}
-use Rattle.volumes.proofs.Had.{fact_there, fact_had, no_fact_fault}
+use Rattle.volumes.proofs.Had.{fact_there, fact_ok, fact_had}
 use Rattle.volumes.proofs.volume.FactVolume.fact.Goals as goal
 
-pub overflow_mul-index : goal.overflow_mul-index
-overflow_mul-index c = let t = fact_there c.args.self.now.bytes.now c.args.index c.args.self.now.count c.args.self.now.counted (omega arith) in omega arith
+pub fact_place-requires : goal.fact_place-requires
+fact_place-requires c = let t = fact_there c.args.self.now c.args.index (omega arith) in omega arith
 
-pub overflow_add-index : goal.overflow_add-index
-overflow_add-index c = let t = fact_there c.args.self.now.bytes.now c.args.index c.args.self.now.count c.args.self.now.counted (omega arith) in omega arith
-
-pub pair_at-place-requires : goal.pair_at-place-requires
-pair_at-place-requires c = let t = fact_there c.args.self.now.bytes.now c.args.index c.args.self.now.count c.args.self.now.counted (omega arith) in omega arith
-
-pub read_atom-requires : goal.read_atom-requires
-read_atom-requires c =
-    let t = fact_there c.args.self.now.bytes.now c.args.index c.args.self.now.count c.args.self.now.counted (omega arith) in
+pub invariant_of-cursor : goal.invariant_of-cursor
+invariant_of-cursor c =
+    let t = fact_there c.args.self.now c.args.index (omega arith) in
     let p = t.place in
-    (omega (arith, c.pair_at-place.ensures), omega arith)
+    record { within = (omega (arith, c.fact_place.ensures), omega arith) }
 
-pub unreachable-requires : goal.unreachable-requires
-unreachable-requires c =
-    no_fact_fault c.args.self.now.bytes.now c.args.index _ (fact_there c.args.self.now.bytes.now c.args.index c.args.self.now.count c.args.self.now.counted (omega arith)) c.pair_at-place.result c.pair_at-place.ensures _ c.in-Err.ensures.value
+pub unwrap-requires : goal.unwrap-requires
+unwrap-requires c = fact_ok c.args.self.now c.args.index _ (omega arith) c.fact_place.ensures _ c.atom.ensures.value
 
 pub returns : goal.returns
 returns c =
-    fact_had c.args.self.now.bytes.now c.args.index _ (fact_there c.args.self.now.bytes.now c.args.index c.args.self.now.count c.args.self.now.counted (omega arith)) c.pair_at-place.result c.pair_at-place.ensures c.in-Ok.atom c.in-Ok.ensures.value
+    fact_had c.args.self.now c.args.index _ (omega arith) c.fact_place.ensures c.unwrap.result (rw c.unwrap.ensures at c.atom.ensures.value)
