@@ -1,5 +1,5 @@
 -- One turn of each loop over a volume, and what the check then answers.
-use Rattle.std.proofs.Common.{◌≡◌, ℕ, suc, ◌+◌, ◌-◌, ◌*◌, ◌<◌, ◌≤◌, cond, eqb, ltb, List, length, Ok, Err, Result, sym, refl, ap, ◌∙◌, arith}
+use Rattle.std.proofs.Common.{◌≡◌, ℕ, suc, ◌+◌, ◌-◌, ◌*◌, ◌<◌, ◌≤◌, cond, eqb, ltb, List, length, Ok, Err, Result, sym, ap, ◌∙◌, arith}
 use Rattle.std.proofs.lemmas.Bool.{lt-ltb, eq-eqb}
 use Rattle.rules.specs.Logic.{Formula, Implication}
 use Rattle.volumes.specs.declared.kind.VolumeKind.TheVariants.{Rules, Facts}
@@ -9,32 +9,16 @@ use Rattle.faults.specs.declared.Fault.{Fault}
 use Rattle.faults.specs.Faults.{fault, in_volume}
 use Rattle.volumes.specs.Layout.{number, extent, rules_end, count, span, Numbered, RuleVolumeSays, FactVolumeSays}
 use Rattle.volumes.specs.Reading.{and_then, above, read_run, read_rule, read_count, read_rising, read_rule_entry, read_rule_entries, read_rules, read_fact_entry, read_fact_entries, read_facts}
-use Rattle.volumes.specs.Answers.{TheAnswer, counted, taken, Checked, TakenUp}
+use Rattle.volumes.specs.Answers.{TheAnswer, counted}
 use Rattle.volumes.proofs.RuleVolumes.{rules_right, rules_only}
 use Rattle.volumes.proofs.FactVolumes.{facts_right, facts_only}
 
 -- the model's answer is the one that the layout allows
-module _ {A : Type 0} (Says : Result (List A) Fault → Type 0) (a : Result (List A) Fault) (right : Says a) (only : (b : Result (List A) Fault) → Says b → a ≡ b) where
-  the_answer : TheAnswer Says a
-  the_answer = record { right = right; only = λ b h. sym (only b h) }
+pub rules_exact : (bs : List ℕ) → TheAnswer (RuleVolumeSays bs) (read_rules bs)
+rules_exact bs = record { right = rules_right bs; only = λ b h. sym (rules_only bs b h) }
 
-  checked_by : (r : Result ℕ Fault) → r ≡ counted a → Checked Says r
-  checked_by r e = record { answer = a; the = the_answer; told = e }
-
-  taken_up_by : TakenUp Says (taken a)
-  taken_up_by = record { answer = a; the = the_answer; are = refl }
-
-pub rules_checked : (bs : List ℕ) (r : Result ℕ Fault) → r ≡ counted (read_rules bs) → Checked (RuleVolumeSays bs) r
-rules_checked bs r e = checked_by (RuleVolumeSays bs) (read_rules bs) (rules_right bs) (rules_only bs) r e
-
-pub rules_taken_up : (bs : List ℕ) → TakenUp (RuleVolumeSays bs) (taken (read_rules bs))
-rules_taken_up bs = taken_up_by (RuleVolumeSays bs) (read_rules bs) (rules_right bs) (rules_only bs)
-
-pub facts_checked : (bs : List ℕ) (r : Result ℕ Fault) → r ≡ counted (read_facts bs) → Checked (FactVolumeSays bs) r
-facts_checked bs r e = checked_by (FactVolumeSays bs) (read_facts bs) (facts_right bs) (facts_only bs) r e
-
-pub facts_taken_up : (bs : List ℕ) → TakenUp (FactVolumeSays bs) (taken (read_facts bs))
-facts_taken_up bs = taken_up_by (FactVolumeSays bs) (read_facts bs) (facts_right bs) (facts_only bs)
+pub facts_exact : (bs : List ℕ) → TheAnswer (FactVolumeSays bs) (read_facts bs)
+facts_exact bs = record { right = facts_right bs; only = λ b h. sym (facts_only bs b h) }
 
 module _ (bs : List ℕ) where
   -- the numbers from that of index i - 1 on

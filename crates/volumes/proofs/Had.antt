@@ -8,18 +8,16 @@ use Rattle.volumes.specs.declared.kind.VolumeKind.TheVariants.{Rules, Facts}
 use Rattle.faults.specs.declared.Fault.{Fault}
 use Rattle.faults.specs.declared.AtomFault.{AtomFault}
 use Rattle.faults.specs.declared.EntryFault.{EntryFault}
-use Rattle.volumes.specs.declared.volume.RuleVolume.{RuleVolume}
-use Rattle.volumes.specs.declared.volume.FactVolume.{FactVolume}
 use Rattle.volumes.specs.declared.cursor.Cursor.{Cursor}
-use Rattle.volumes.specs.declared.volume.NumberedRule.{NumberedRule}
+use Rattle.volumes.specs.declared.rule_volume.NumberedRule.{NumberedRule}
 use Rattle.volumes.specs.declared.items.RuleAtoms.{RuleAtoms}
 use Rattle.volumes.specs.Sequence.{Stand}
 use Rattle.volumes.specs.Handing.{Left}
 use Rattle.volumes.specs.Layout.{span, AtomSays, RuleSays, RuleStands, Numbered, contents_end, count, number, rules_end, fact_place}
 use Rattle.volumes.specs.Reading.{read_atom, read_rule, read_rules, read_facts}
-use Rattle.volumes.specs.Answers.{taken}
+use Rattle.volumes.specs.Answers.{Nth, taken}
 use Rattle.volumes.specs.Parts.{Begun}
-use Rattle.volumes.specs.Volumes.{rules_of, facts_of, Nth, numbered, RulePart, AtomsHad}
+use Rattle.volumes.specs.Volumes.{rules_of, facts_of, numbered, RulePart, AtomsHad}
 use Rattle.volumes.proofs.RuleBodies.{rule_right}
 use Rattle.volumes.proofs.RuleVolumes.{ends_rise, rules_encoded, rules_count, rules_few, rules_contents, rule_at}
 use Rattle.volumes.proofs.Together.{hands_out}
@@ -42,11 +40,9 @@ pub record RuleThere (bs : List ℕ) (i : ℕ) (xs : List Numbered) : Type 0 whe
   pub rule : (d : Numbered) → read_rule bs (rules_end bs (i + 1)) (rules_end bs i) ≡ Ok (get_or xs i d).rule
   pub number_is : (d : Numbered) → number bs i ≡ (get_or xs i d).number
 
-pub rule_there : (v : RuleVolume) (i : ℕ) → i < v.count → RuleThere v.bytes.now i (rules_of v)
-rule_there v i l =
-    let bs = v.bytes.now in
-    let e = v.counted in
-    let t = some_taken (read_rules bs) i (omega arith) in
+pub rule_there : (bs : List ℕ) (i : ℕ) → i < length (rules_of bs) → RuleThere bs i (rules_of bs)
+rule_there bs i l =
+    let t = some_taken (read_rules bs) i l in
     let xs = t.0 in
     let is : read_rules bs ≡ Ok xs = t.1 in
     let same : taken (read_rules bs) ≡ xs = ap taken is in
@@ -69,23 +65,23 @@ blank : Numbered
 blank = record { number = 0; rule = record { body = []; head = [] } }
 
 -- of the rule of index i, whose bytes c has
-module _ (v : RuleVolume) (i : ℕ) (c : Cursor) (part : RulePart v i (Some c)) where
-  there : RuleThere v.bytes.now i (rules_of v)
-  there = rule_there v i part.0
+module _ (bs : List ℕ) (i : ℕ) (c : Cursor) (part : RulePart bs i (Some c)) where
+  there : RuleThere bs i (rules_of bs)
+  there = rule_there bs i part.0
 
-  reads_there : (d : Numbered) → read_rule c.bytes.now c.end c.place ≡ Ok (get_or (rules_of v) i d).rule
+  reads_there : (d : Numbered) → read_rule c.bytes.now c.end c.place ≡ Ok (get_or (rules_of bs) i d).rule
   reads_there d = (λ j. read_rule (part.1 j) (part.3 j) (part.2 j)) ∙ there.rule d
 
   pub rule_ok : (r : Result Rule EntryFault) → MatchResult r (λ x. read_rule c.bytes.now c.end c.place ≡ Ok (meaning x)) (λ f. read_rule c.bytes.now c.end c.place ≡ Err f) → IsOk r
   rule_ok (Ok x) h = refl
   rule_ok (Err f) h = let a = reads_there blank in cc
 
-  pub rule_had : (x : NumberedRule) → x.number ≡ number v.bytes.now i → read_rule c.bytes.now c.end c.place ≡ Ok (meaning x.rule) → Nth (rules_of v) i (numbered x)
+  pub rule_had : (x : NumberedRule) → x.number ≡ number bs i → read_rule c.bytes.now c.end c.place ≡ Ok (meaning x.rule) → Nth (rules_of bs) i (numbered x)
   rule_had x n is = (
     there.inside,
     λ d.
-        let same : (get_or (rules_of v) i d).rule ≡ meaning x.rule = let a = reads_there d in cc in
-        let numbers : (get_or (rules_of v) i d).number ≡ x.number = sym (there.number_is d) ∙ sym n in
+        let same : (get_or (rules_of bs) i d).rule ≡ meaning x.rule = let a = reads_there d in cc in
+        let numbers : (get_or (rules_of bs) i d).number ≡ x.number = sym (there.number_is d) ∙ sym n in
         λ j. record { number = numbers j; rule = same j },
   )
 
@@ -98,11 +94,9 @@ pub record FactThere (bs : List ℕ) (i : ℕ) (xs : List Formula) : Type 0 wher
   pub inside : i < length xs
   pub fact : (d : Formula) → read_atom Facts bs (length bs) (fact_place bs i) ≡ Ok (get_or xs i d)
 
-pub fact_there : (v : FactVolume) (i : ℕ) → i < v.count → FactThere v.bytes.now i (facts_of v)
-fact_there v i l =
-    let bs = v.bytes.now in
-    let e = v.counted in
-    let t = some_taken (read_facts bs) i (omega arith) in
+pub fact_there : (bs : List ℕ) (i : ℕ) → i < length (facts_of bs) → FactThere bs i (facts_of bs)
+fact_there bs i l =
+    let t = some_taken (read_facts bs) i l in
     let xs = t.0 in
     let is : read_facts bs ≡ Ok xs = t.1 in
     let same : taken (read_facts bs) ≡ xs = ap taken is in
@@ -119,25 +113,25 @@ fact_there v i l =
     })
 
 -- of the fact of index i, which begins at p
-module _ (v : FactVolume) (i p : ℕ) (l : i < v.count) (place : p ≡ fact_place v.bytes.now i) where
-  atom_there : (d : Formula) → read_atom Facts v.bytes.now (length v.bytes.now) p ≡ Ok (get_or (facts_of v) i d)
-  atom_there d = ap (read_atom Facts v.bytes.now (length v.bytes.now)) place ∙ (fact_there v i l).fact d
+module _ (bs : List ℕ) (i p : ℕ) (l : i < length (facts_of bs)) (place : p ≡ fact_place bs i) where
+  atom_there : (d : Formula) → read_atom Facts bs (length bs) p ≡ Ok (get_or (facts_of bs) i d)
+  atom_there d = ap (read_atom Facts bs (length bs)) place ∙ (fact_there bs i l).fact d
 
-  pub fact_ok : (r : Result Atom AtomFault) → MatchResult r (λ a. read_atom Facts v.bytes.now (length v.bytes.now) p ≡ Ok (formula_of a)) (λ f. read_atom Facts v.bytes.now (length v.bytes.now) p ≡ Err f) → IsOk r
+  pub fact_ok : (r : Result Atom AtomFault) → MatchResult r (λ a. read_atom Facts bs (length bs) p ≡ Ok (formula_of a)) (λ f. read_atom Facts bs (length bs) p ≡ Err f) → IsOk r
   fact_ok (Ok a) h = refl
   fact_ok (Err f) h = let a = atom_there (record { predicate = 0; terms = [] }) in cc
 
-  pub fact_had : (a : Atom) → read_atom Facts v.bytes.now (length v.bytes.now) p ≡ Ok (formula_of a) → Nth (facts_of v) i (formula_of a)
-  fact_had a is = ((fact_there v i l).inside, λ d. let b = atom_there d in cc)
+  pub fact_had : (a : Atom) → read_atom Facts bs (length bs) p ≡ Ok (formula_of a) → Nth (facts_of bs) i (formula_of a)
+  fact_had a is = ((fact_there bs i l).inside, λ d. let b = atom_there d in cc)
 
 -- the reader at the first atom of the rule of index i, whose bytes c has
-module _ (v : RuleVolume) (i : ℕ) (c : Cursor) (part : RulePart v i (Some c)) where
-  stands_there : (x : Numbered) → Nth (rules_of v) i x → RuleStands c.bytes.now c.end c.place x.rule
+module _ (bs : List ℕ) (i : ℕ) (c : Cursor) (part : RulePart bs i (Some c)) where
+  stands_there : (x : Numbered) → Nth (rules_of bs) i x → RuleStands c.bytes.now c.end c.place x.rule
   stands_there x n =
       subst (λ (r : Result Implication EntryFault). RuleSays c.bytes.now c.end c.place r)
-      (reads_there v i c part x ∙ ap (λ (y : Numbered). Ok y.rule) (n.1 x)) (rule_right c.bytes.now c.end c.place)
+      (reads_there bs i c part x ∙ ap (λ (y : Numbered). Ok y.rule) (n.1 x)) (rule_right c.bytes.now c.end c.place)
 
-  reader_there : (x : Numbered) → Nth (rules_of v) i x → (a : RuleAtoms) → Begun c a → Left a x.rule
+  reader_there : (x : Numbered) → Nth (rules_of bs) i x → (a : RuleAtoms) → Begun c a → Left a x.rule
   reader_there x n a begun =
       let f = (stands_there x n).filled in
       let fb = f.bodies in
@@ -159,11 +153,10 @@ module _ (v : RuleVolume) (i : ℕ) (c : Cursor) (part : RulePart v i (Some c)) 
 
   pub atoms_ok : (r : Result RuleAtoms EntryFault) → MatchResult r (λ a. Begun c a) (λ f. read_rule c.bytes.now c.end c.place ≡ Err f) → IsOk r
   atoms_ok (Ok x) h = refl
-  atoms_ok (Err f) h = let a = reads_there v i c part blank in cc
+  atoms_ok (Err f) h = let a = reads_there bs i c part blank in cc
 
-  pub atoms_had : (a : RuleAtoms) → Begun c a → AtomsHad v i a
+  pub atoms_had : (a : RuleAtoms) → Begun c a → AtomsHad bs i a
   atoms_had a begun =
-      let e = v.counted in
       let l = part.0 in
       let m = begun.moved in
       record {
@@ -171,8 +164,3 @@ module _ (v : RuleVolume) (i : ℕ) (c : Cursor) (part : RulePart v i (Some c)) 
         hands = λ x n. (m.place ∙ ap (λ p. p + 2) part.2, hands_out a x.rule (reader_there x n a begun));
         none = λ few. absurd (omega arith);
       }
-
-pub none_had : (v : RuleVolume) (i : ℕ) (a : RuleAtoms) → v.count ≤ i → a.cursor.bytes.now ≡ v.bytes.now → a.bodies ≡ 0 → a.heads ≡ 0 → AtomsHad v i a
-none_had v i a few bytes bodies heads =
-    let e = v.counted in
-    record { bytes = bytes; hands = λ x n. let l = n.0 in absurd (omega arith); none = λ _. (bodies, heads) }

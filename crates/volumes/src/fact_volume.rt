@@ -1,20 +1,27 @@
 //! Fact volumes.
-ghost use Rattle.std.specs.Prelude.{◌≡◌, ◌+◌, ◌*◌, ◌<◌, ◌≤◌, List, length, IfOk, Ok, Err, MatchResult};
+ghost use Rattle.std.specs.Prelude.{◌≡◌, ◌+◌, ◌*◌, ◌<◌, ◌≤◌, List, length, IfOk, Ok, Err, MatchResult, refl};
 ghost use Rattle.rules.specs.Logic.{Formula, formula_of};
-ghost use Rattle.volumes.specs.declared.kind.VolumeKind.TheVariants.{Facts};
+ghost use Rattle.rules.specs.Text.{formula_text};
 ghost use Rattle.volumes.specs.Layout.{ContentsWhole, count as count_of, fact_place as place_of, span, FactVolumeSays};
 ghost use Rattle.volumes.specs.Moves.{Past};
 ghost use Rattle.volumes.specs.Reading.{read_fact_entry, read_fact_entries, read_facts};
-ghost use Rattle.volumes.specs.Answers.{Checked, TakenUp, counted};
+ghost use Rattle.volumes.specs.Answers.{Checked};
 ghost use Rattle.volumes.specs.Volumes.{facts_of, FactHad};
 
 use crate::contents::{read_count, volume_fault};
 use crate::cursor::Cursor;
 use crate::fields::pair_at;
 use crate::kind::VolumeKind;
-use crate::volume::FactVolume;
+use crate::volume::{Entries, Volume};
 use faults::{EntryAt, Fault, VolumeFault};
 use rules::Atom;
+
+/// The facts of a fact volume.
+#[derive(Clone, Copy)]
+pub enum Facts {}
+
+/// A fact volume that is taken up.
+pub type FactVolume<'a> = Volume<'a, Facts>;
 
 /// Where the fact of this index begins, as the contents say.
 fn fact_place(bytes: &[u8], index: usize) -> usize
@@ -48,7 +55,7 @@ impl<'a> Cursor<'a> {
 
 /// Where the last fact ends, if each stands as the contents say.
 fn facts_end(bytes: &[u8], count: usize) -> Result<usize, Fault>
-    requires { (ContentsWhole Facts bytes.now) × (count ≡ count_of bytes.now) }
+    requires { (ContentsWhole VolumeKind.Facts bytes.now) × (count ≡ count_of bytes.now) }
     ensures { MatchResult result (λ q. (xs : List Formula) × (length xs ≡ count) × (read_fact_entries bytes.now ≡ Ok (xs, q))) (λ f. read_fact_entries bytes.now ≡ Err f) }
 {
     let mut cursor = Cursor {
@@ -62,44 +69,47 @@ fn facts_end(bytes: &[u8], count: usize) -> Result<usize, Fault>
     Ok(cursor.place)
 }
 
-fn count_facts(bytes: &[u8]) -> Result<usize, Fault>
-    ensures { result ≡ counted (read_facts bytes.now) }
-{
-    let count = read_count(VolumeKind::Facts, bytes)?;
-    let end = facts_end(bytes, count)?;
-    if end != bytes.len() {
-        return Err(volume_fault(VolumeFault::Ends, end));
+impl Entries for Facts {
+    type Entry = Atom;
+
+    ghost Thing = { Formula };
+
+    ghost means = { formula_of };
+
+    ghost text = { formula_text };
+
+    ghost read = { read_facts };
+
+    ghost Says = { FactVolumeSays };
+
+    ghost shown = { λ _. refl };
+
+    #[tactic(auto, using(crate::proofs::Checking::facts_exact))]
+    fn check(bytes: &[u8]) -> Result<usize, Fault> {
+        let count = read_count(VolumeKind::Facts, bytes)?;
+        let end = facts_end(bytes, count)?;
+        if end != bytes.len() {
+            return Err(volume_fault(VolumeFault::Ends, end));
+        }
+        Ok(count)
     }
-    Ok(count)
+
+    fn entry(volume: &FactVolume<'_>, index: usize) -> Option<Atom> {
+        volume.fact(index)
+    }
 }
 
 /// How many facts the bytes hold as a fact volume, or their first fault.
 pub fn check_facts(bytes: &[u8]) -> Result<usize, Fault>
     ensures { Checked (FactVolumeSays bytes.now) result }
 {
-    count_facts(bytes)
+    Facts::check(bytes)
 }
 
-impl<'a> FactVolume<'a> {
-    /// The volume in the bytes; one of no facts where they fail the check.
-    pub fn take_up(bytes: &'a [u8]) -> FactVolume<'a>
-        ensures facts { TakenUp (FactVolumeSays bytes.now) (facts_of result) }
-        ensures same { result.bytes.now ≡ bytes.now }
-    {
-        let count = count_facts(bytes).unwrap_or(0);
-        FactVolume { bytes, count }
-    }
-
-    /// How many facts there are.
-    pub fn count(&self) -> usize
-        ensures { result ≡ length (facts_of self.now) }
-    {
-        self.count
-    }
-
+impl<'a> Volume<'a, Facts> {
     /// The fact of an index in the contents, or none where there are not so many. Nothing else of the volume is read.
     pub fn fact(&self, index: usize) -> Option<Atom>
-        ensures { FactHad (facts_of self.now) index result }
+        ensures { FactHad (facts_of self.now.bytes.now) index result }
     {
         if index >= self.count {
             return None;

@@ -14,7 +14,7 @@ mod show;
 mod term;
 mod volume;
 
-pub use fact_volume::check_facts;
+pub use fact_volume::{FactVolume, Facts, check_facts};
 pub use items::{Item, Placed, RuleAtoms};
-pub use rule_volume::check_rules;
-pub use volume::{FactVolume, NumberedRule, RuleVolume};
+pub use rule_volume::{NumberedRule, RuleVolume, Rules, check_rules};
+pub use volume::{Entries, Volume};

@@ -1,18 +1,33 @@
 //! Rule volumes.
-ghost use Rattle.std.specs.Prelude.{◌≡◌, ℕ, ◌+◌, ◌-◌, ◌*◌, ◌<◌, ◌≤◌, List, length, Ok, Err, MatchResult};
-ghost use Rattle.volumes.specs.declared.kind.VolumeKind.TheVariants.{Rules};
+ghost use Rattle.std.specs.Prelude.{◌≡◌, ℕ, ◌+◌, ◌-◌, ◌*◌, ◌<◌, ◌≤◌, List, length, Ok, Err, MatchResult, refl};
 ghost use Rattle.volumes.specs.Layout.{Numbered, contents_end, count as count_of, number as number_of, extent as extent_of, rules_end, ContentsWhole, RuleVolumeSays};
 ghost use Rattle.volumes.specs.Reading.{read_rising, read_rule_entries, read_rules};
-ghost use Rattle.volumes.specs.Answers.{Checked, TakenUp, counted};
-ghost use Rattle.volumes.specs.Volumes.{rules_of, RulePart, RuleHad, AtomsHad};
+ghost use Rattle.volumes.specs.Answers.{Checked};
+ghost use Rattle.volumes.specs.Text.{numbered_text};
+ghost use Rattle.volumes.specs.Volumes.{rules_of, numbered, RulePart, RuleHad, AtomsHad};
 
 use crate::contents::{read_count, volume_fault};
 use crate::cursor::Cursor;
 use crate::fields::pair_at;
 use crate::items::RuleAtoms;
 use crate::kind::VolumeKind;
-use crate::volume::{NumberedRule, RuleVolume};
+use crate::volume::{Entries, Volume};
 use faults::{EntryAt, Fault, VolumeFault};
+use rules::Rule;
+
+/// The rules of a rule volume.
+#[derive(Clone, Copy)]
+pub enum Rules {}
+
+/// A rule volume that is taken up.
+pub type RuleVolume<'a> = Volume<'a, Rules>;
+
+/// A rule with its number.
+#[derive(Clone, Copy)]
+pub struct NumberedRule {
+    pub number: u16,
+    pub rule: Rule,
+}
 
 /// The number of the rule of this index.
 fn number(bytes: &[u8], index: usize) -> u16
@@ -50,7 +65,7 @@ fn check_rising(bytes: &[u8], count: usize) -> Result<(), Fault>
 
 /// Where the first `n` rules end, as the contents say.
 fn rules_end(bytes: &[u8], n: usize) -> usize
-    requires { (n ≤ count_of bytes.now) × ((count_of bytes.now ≤ 64) × ((contents_end Rules bytes.now ≤ length bytes.now) × (3 ≤ length bytes.now))) }
+    requires { (n ≤ count_of bytes.now) × ((count_of bytes.now ≤ 64) × ((contents_end VolumeKind.Rules bytes.now ≤ length bytes.now) × (3 ≤ length bytes.now))) }
     ensures { result ≡ rules_end bytes.now n }
 {
     let mut end = 3 + 4 * pair_at(bytes, 1) as usize;
@@ -62,7 +77,7 @@ fn rules_end(bytes: &[u8], n: usize) -> usize
 
 /// Whether each rule stands as the contents say.
 fn check_bodies(bytes: &[u8], count: usize) -> Result<(), Fault>
-    requires { (ContentsWhole Rules bytes.now) × ((rules_end bytes.now count ≡ length bytes.now) × (count ≡ count_of bytes.now)) }
+    requires { (ContentsWhole VolumeKind.Rules bytes.now) × ((rules_end bytes.now count ≡ length bytes.now) × (count ≡ count_of bytes.now)) }
     ensures { MatchResult result (λ _. (xs : List Numbered) × (q : ℕ) × (length xs ≡ count) × (read_rule_entries bytes.now ≡ Ok (xs, q))) (λ f. read_rule_entries bytes.now ≡ Err f) }
 {
     let mut place = 3 + 4 * count;
@@ -77,46 +92,49 @@ fn check_bodies(bytes: &[u8], count: usize) -> Result<(), Fault>
     Ok(())
 }
 
-fn count_rules(bytes: &[u8]) -> Result<usize, Fault>
-    ensures { result ≡ counted (read_rules bytes.now) }
-{
-    let count = read_count(VolumeKind::Rules, bytes)?;
-    check_rising(bytes, count)?;
-    let end = rules_end(bytes, count);
-    if end != bytes.len() {
-        return Err(volume_fault(VolumeFault::Ends, end));
+impl Entries for Rules {
+    type Entry = NumberedRule;
+
+    ghost Thing = { Numbered };
+
+    ghost means = { numbered };
+
+    ghost text = { numbered_text };
+
+    ghost read = { read_rules };
+
+    ghost Says = { RuleVolumeSays };
+
+    ghost shown = { λ _. refl };
+
+    #[tactic(auto, using(crate::proofs::Checking::rules_exact))]
+    fn check(bytes: &[u8]) -> Result<usize, Fault> {
+        let count = read_count(VolumeKind::Rules, bytes)?;
+        check_rising(bytes, count)?;
+        let end = rules_end(bytes, count);
+        if end != bytes.len() {
+            return Err(volume_fault(VolumeFault::Ends, end));
+        }
+        check_bodies(bytes, count)?;
+        Ok(count)
     }
-    check_bodies(bytes, count)?;
-    Ok(count)
+
+    fn entry(volume: &RuleVolume<'_>, index: usize) -> Option<NumberedRule> {
+        volume.rule(index)
+    }
 }
 
 /// How many rules the bytes hold as a rule volume, or their first fault.
 pub fn check_rules(bytes: &[u8]) -> Result<usize, Fault>
     ensures { Checked (RuleVolumeSays bytes.now) result }
 {
-    count_rules(bytes)
+    Rules::check(bytes)
 }
 
-impl<'a> RuleVolume<'a> {
-    /// The volume in the bytes; one of no rules where they fail the check.
-    pub fn take_up(bytes: &'a [u8]) -> RuleVolume<'a>
-        ensures rules { TakenUp (RuleVolumeSays bytes.now) (rules_of result) }
-        ensures same { result.bytes.now ≡ bytes.now }
-    {
-        let count = count_rules(bytes).unwrap_or(0);
-        RuleVolume { bytes, count }
-    }
-
-    /// How many rules there are.
-    pub fn count(&self) -> usize
-        ensures { result ≡ length (rules_of self.now) }
-    {
-        self.count
-    }
-
+impl<'a> Volume<'a, Rules> {
     /// The bytes of the rule of an index, or none where there are not so many.
     fn part(&self, index: usize) -> Option<Cursor<'a>>
-        ensures { RulePart self.now index result }
+        ensures { RulePart self.now.bytes.now index result }
     {
         if index >= self.count {
             return None;
@@ -130,7 +148,7 @@ impl<'a> RuleVolume<'a> {
 
     /// The rule of an index in the contents with its number, or none where there are not so many.
     pub fn rule(&self, index: usize) -> Option<NumberedRule>
-        ensures { RuleHad (rules_of self.now) index result }
+        ensures { RuleHad (rules_of self.now.bytes.now) index result }
     {
         let part = self.part(index)?;
         Some(NumberedRule {
@@ -141,7 +159,7 @@ impl<'a> RuleVolume<'a> {
 
     /// The reader of the atoms of the rule of an index; one that is at its end where there are not so many.
     pub fn atoms(&self, index: usize) -> RuleAtoms<'a>
-        ensures { AtomsHad self.now index result }
+        ensures { AtomsHad self.now.bytes.now index result }
     {
         match self.part(index) {
             Some(part) => part.rule_atoms().unwrap(),

@@ -1,9 +1,0 @@
-use Rattle.volumes.proofs.Had.{atoms_ok, atoms_had}
-use Rattle.volumes.proofs.volume.RuleVolume.atoms.Goals as goal
-
-pub unwrap-requires : goal.unwrap-requires
-unwrap-requires c = atoms_ok c.args.self.now c.args.index c.in-Some.part c.in-Some.ensures _ c.rule_atoms.ensures
-
-pub returns-in-Some : goal.returns-in-Some
-returns-in-Some c =
-    atoms_had c.args.self.now c.args.index c.in-Some.part c.in-Some.ensures c.unwrap.result (rw c.unwrap.ensures at c.rule_atoms.ensures)
