@@ -1,15 +1,14 @@
 -- One turn of each loop over a volume, and what the check then answers.
-use Rattle.std.proofs.Common.{◌≡◌, ℕ, suc, ◌+◌, ◌-◌, ◌*◌, ◌<◌, ◌≤◌, cond, eqb, ltb, List, length, Ok, Err, Result, sym, ap, ◌∙◌, arith}
-use Rattle.std.proofs.lemmas.Bool.{lt-ltb, eq-eqb}
+use Rattle.std.proofs.Common.{◌≡◌, ℕ, suc, ◌+◌, ◌-◌, ◌*◌, ◌<◌, ◌≤◌, cond, ltb, List, Ok, Err, Result, sym, ap, ◌∙◌, arith}
+use Rattle.std.proofs.lemmas.Bool.{lt-ltb}
 use Rattle.rules.specs.Logic.{Formula, Implication}
-use Rattle.volumes.specs.declared.kind.VolumeKind.TheVariants.{Rules, Facts}
 use Rattle.faults.specs.declared.EntryFault.{EntryFault}
-use Rattle.faults.specs.declared.VolumeFault.TheVariants.{NotRising, Ends}
+use Rattle.faults.specs.declared.VolumeFault.TheVariants.{NotRising}
 use Rattle.faults.specs.declared.Fault.{Fault}
 use Rattle.faults.specs.Faults.{fault, in_volume}
-use Rattle.volumes.specs.Layout.{number, extent, rules_end, count, span, Numbered, RuleVolumeSays, FactVolumeSays}
-use Rattle.volumes.specs.Reading.{and_then, above, read_run, read_rule, read_count, read_rising, read_rule_entry, read_rule_entries, read_rules, read_fact_entry, read_fact_entries, read_facts}
-use Rattle.volumes.specs.Answers.{TheAnswer, counted}
+use Rattle.volumes.specs.Layout.{number, extent, count, span, Numbered, RuleVolumeSays, FactVolumeSays}
+use Rattle.volumes.specs.Reading.{and_then, above, read_run, read_rule, read_rising, read_rule_entry, read_rule_entries, read_rules, read_fact_entry, read_fact_entries, read_facts}
+use Rattle.volumes.specs.Answers.{TheAnswer}
 use Rattle.volumes.proofs.RuleVolumes.{rules_right, rules_only}
 use Rattle.volumes.proofs.FactVolumes.{facts_right, facts_only}
 
@@ -50,21 +49,3 @@ module _ (bs : List ℕ) where
 
   pub fact_entries : (n : ℕ) (r : Result (List Formula × ℕ) Fault) → n ≡ count bs → read_run (read_fact_entry bs) (λ _ p a. p + span a) 0 (3 + 2 * n) n ≡ r → read_fact_entries bs ≡ r
   fact_entries n r e h = ap (λ k. read_run (read_fact_entry bs) (λ _ p a. p + span a) 0 (3 + 2 * k) k) (sym e) ∙ h
-
-  -- the check goes through
-  pub rules_all : (n : ℕ) → read_count Rules bs ≡ Ok n → read_rising bs 0 (n - 1) ≡ Ok tt → rules_end bs n ≡ length bs → (xs : List Numbered) (q : ℕ) → length xs ≡ n → read_rule_entries bs ≡ Ok (xs, q) → counted (read_rules bs) ≡ Ok n
-  rules_all n some rise end xs q l e =
-      ap counted
-      (ap (λ r. and_then r (λ n. and_then (read_rising bs 0 (n - 1)) (λ _. cond (eqb (rules_end bs n) (length bs)) (and_then (read_rule_entries bs) (λ xs. Ok xs.0)) (Err (fault Ends 0 (rules_end bs n)))))) some
-      ∙ ap (λ r. and_then r (λ _. cond (eqb (rules_end bs n) (length bs)) (and_then (read_rule_entries bs) (λ xs. Ok xs.0)) (Err (fault Ends 0 (rules_end bs n))))) rise
-      ∙ ap (λ b. cond b (and_then (read_rule_entries bs) (λ xs. Ok xs.0)) (Err (fault Ends 0 (rules_end bs n)))) (eq-eqb (rules_end bs n) (length bs) end)
-      ∙ ap (λ r. and_then r (λ xs. Ok xs.0)) e)
-      ∙ ap (λ k. Ok k) l
-
-  pub facts_all : (n : ℕ) → read_count Facts bs ≡ Ok n → (xs : List Formula) (q : ℕ) → read_fact_entries bs ≡ Ok (xs, q) → length xs ≡ n → q ≡ length bs → counted (read_facts bs) ≡ Ok n
-  facts_all n some xs q read l e =
-      ap counted
-      (ap (λ r. and_then r (λ _. and_then (read_fact_entries bs) (λ xs. cond (eqb xs.1 (length bs)) (Ok xs.0) (Err (fault Ends 0 xs.1))))) some
-      ∙ ap (λ r. and_then r (λ xs. cond (eqb xs.1 (length bs)) (Ok xs.0) (Err (fault Ends 0 xs.1)))) read
-      ∙ ap (λ b. cond b (Ok xs) (Err (fault Ends 0 q))) (eq-eqb q (length bs) e))
-      ∙ ap (λ k. Ok k) l

@@ -1,6 +1,6 @@
 -- One turn over a rule's atoms: the parts hold those that the reader has passed.
-use Rattle.std.proofs.Common.{◌≡◌, ℕ, ◌+◌, List, [], ◌∷◌, ◌++◌, map, length, take, Ok, Err, Result, sym, refl, ap, ◌∙◌, subst, inl, inr, append_assoc, append-nil, arith}
-use Rattle.std.proofs.lemmas.List.{length_push}
+use Rattle.std.proofs.Common.{◌≡◌, ℕ, ◌+◌, List, [], ◌∷◌, ◌++◌, map, length, take, Ok, Err, Result, sym, ap, ◌∙◌, subst, inl, inr, append_assoc, append-nil, arith}
+use Rattle.std.proofs.lemmas.List.{length_push, map-append}
 use Rattle.rules.specs.declared.Atom.{Atom}
 use Rattle.rules.specs.declared.parts.RuleParts.{RuleParts}
 use Rattle.rules.specs.Logic.{Each, Formula, formula_of}
@@ -34,10 +34,6 @@ each_push P [] x h k y (inr z) = absurd z
 each_push P (w ∷ xs) x h k y (inl e) = h y (inl e)
 each_push P (w ∷ xs) x h k y (inr z) = each_push P xs x (λ v i. h v (inr i)) k y z
 
-map_push : {A B : Type 0} (f : A → B) (xs : List A) (x : A) → map f (xs ++ x ∷ []) ≡ map f xs ++ f x ∷ []
-map_push f [] x = refl
-map_push f (y ∷ xs) x = ap (λ l. f y ∷ l) (map_push f xs x)
-
 same_then : (s u t : RuleAtoms) → SameRule s u → SameRule u t → SameRule s t
 same_then s u t a b = record { bytes = b.bytes ∙ a.bytes; end = b.end ∙ a.end }
 
@@ -62,7 +58,7 @@ module _ (s u t : RuleAtoms) (p p2 : RuleParts) (x : Placed) (passed : Passed s 
   passed_body fewer same grown none =
       let f = formula_of x.atom in
       let nil : head_of p ≡ [] = no_head p none in
-      let body : map formula_of (body_of p2) ≡ map formula_of (body_of p) ++ f ∷ [] = ap (map formula_of) grown.body ∙ map_push formula_of (body_of p) x.atom in
+      let body : map formula_of (body_of p2) ≡ map formula_of (body_of p) ++ f ∷ [] = ap (map formula_of) grown.body ∙ map-append formula_of (body_of p) (x.atom ∷ []) in
       let head2 : map formula_of (head_of p2) ≡ [] = ap (map formula_of) (grown.head ∙ nil) in
       let head : map formula_of (head_of p) ≡ [] = ap (map formula_of) nil in
       let e : formulas p2 ≡ formulas p ++ f ∷ [] =
@@ -86,7 +82,7 @@ module _ (s u t : RuleAtoms) (p p2 : RuleParts) (x : Placed) (passed : Passed s 
   pub passed_head : u.bodies ≡ 0 → t.bodies ≡ 0 → u.heads ≡ t.heads + 1 → HeadGrows p x.atom p2 → Passed s p2 t
   passed_head none still fewer grown =
       let f = formula_of x.atom in
-      let head : map formula_of (head_of p2) ≡ map formula_of (head_of p) ++ f ∷ [] = ap (map formula_of) grown.head ∙ map_push formula_of (head_of p) x.atom in
+      let head : map formula_of (head_of p2) ≡ map formula_of (head_of p) ++ f ∷ [] = ap (map formula_of) grown.head ∙ map-append formula_of (head_of p) (x.atom ∷ []) in
       let body : map formula_of (body_of p2) ≡ map formula_of (body_of p) = ap (map formula_of) grown.body in
       let e : formulas p2 ≡ formulas p ++ f ∷ [] =
       (λ i. body i ++ head i) ∙ sym (append_assoc (map formula_of (body_of p)) (map formula_of (head_of p)) (f ∷ [])) in
