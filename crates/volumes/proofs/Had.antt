@@ -30,6 +30,7 @@ some_taken (Err f) i l = absurd (omega arith)
 
 -- where the rule of index i is, and what is read there
 pub record RuleThere (bs : List ℕ) (i : ℕ) (xs : List Numbered) : Type 0 where
+  pub all : length xs ≡ count bs
   pub below : i < count bs
   pub few : count bs ≤ 64
   pub head : 3 ≤ length bs
@@ -50,6 +51,7 @@ rule_there bs i l =
     let m : length (taken (read_rules bs)) ≡ length xs = ap length same in
     let in-xs : i < length xs = omega arith in
     subst (RuleThere bs i) (sym same) (record {
+      all = long;
       below = omega arith;
       few = rules_few bs xs is;
       head = (rules_encoded bs xs is).begins.contents.head;

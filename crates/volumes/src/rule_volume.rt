@@ -46,50 +46,63 @@ fn extent(bytes: &[u8], index: usize) -> usize
     pair_at(bytes, 5 + 4 * index) as usize
 }
 
-/// Whether each number is above the one before it.
-fn check_rising(bytes: &[u8], count: usize) -> Result<(), Fault>
-    requires { (count ≤ 64) × (3 + 4 * count ≤ length bytes.now) }
-    ensures { result ≡ read_rising bytes.now 0 (count - 1) }
-{
-    for i in 1..count {
-        if number(bytes, i - 1) >= number(bytes, i) {
-            return Err(Fault {
-                layer: VolumeFault::NotRising,
-                index: i,
-                place: 3 + 4 * i,
-            });
-        }
-    }
-    Ok(())
+/// The contents of a rule volume, whole.
+#[derive(Clone, Copy)]
+struct RuleContents<'a> {
+    bytes: &'a [u8],
+    count: usize,
+    ghost counted: { count ≡ count_of bytes.now },
+    ghost few: { count ≤ 64 },
+    ghost whole: { 3 + 4 * count ≤ length bytes.now },
 }
 
-/// Where the first `n` rules end, as the contents say.
-fn rules_end(bytes: &[u8], n: usize) -> usize
-    requires { (n ≤ count_of bytes.now) × ((count_of bytes.now ≤ 64) × ((contents_end VolumeKind.Rules bytes.now ≤ length bytes.now) × (3 ≤ length bytes.now))) }
-    ensures { result ≡ rules_end bytes.now n }
-{
-    let mut end = 3 + 4 * pair_at(bytes, 1) as usize;
-    for i in 0..n {
-        end += extent(bytes, i);
-    }
-    end
-}
-
-/// Whether each rule stands as the contents say.
-fn check_bodies(bytes: &[u8], count: usize) -> Result<(), Fault>
-    requires { (ContentsWhole VolumeKind.Rules bytes.now) × ((rules_end bytes.now count ≡ length bytes.now) × (count ≡ count_of bytes.now)) }
-    ensures { MatchResult result (λ _. (xs : List Numbered) × (q : ℕ) × (length xs ≡ count) × (read_rule_entries bytes.now ≡ Ok (xs, q))) (λ f. read_rule_entries bytes.now ≡ Err f) }
-{
-    let mut place = 3 + 4 * count;
-    for index in 0..count {
-        let end = place + extent(bytes, index);
-        let rule = Cursor { bytes, place, end };
-        if let Err(fault) = rule.rule() {
-            return Err(EntryAt { index, fault }.into());
+// The loops go by index, since a fault names the index, and an entry's place follows from it.
+impl<'a> RuleContents<'a> {
+    /// Whether each number is above the one before it.
+    fn check_rising(&self) -> Result<(), Fault>
+        ensures { result ≡ read_rising self.now.bytes.now 0 (self.now.count - 1) }
+    {
+        for index in 1..self.count {
+            if number(self.bytes, index - 1) >= number(self.bytes, index) {
+                return Err(Fault {
+                    layer: VolumeFault::NotRising,
+                    index,
+                    place: 3 + 4 * index,
+                });
+            }
         }
-        place = end;
+        Ok(())
     }
-    Ok(())
+
+    /// Where the first `n` rules end.
+    fn rules_end(&self, n: usize) -> usize
+        requires { n ≤ self.now.count }
+        ensures { result ≡ rules_end self.now.bytes.now n }
+    {
+        let mut end = 3 + 4 * self.count;
+        for index in 0..n {
+            end += extent(self.bytes, index);
+        }
+        end
+    }
+
+    /// Whether each rule stands where it should.
+    fn check_bodies(&self) -> Result<(), Fault>
+        requires { rules_end self.now.bytes.now self.now.count ≡ length self.now.bytes.now }
+        ensures { MatchResult result (λ _. (xs : List Numbered) × (q : ℕ) × (length xs ≡ self.now.count) × (read_rule_entries self.now.bytes.now ≡ Ok (xs, q))) (λ f. read_rule_entries self.now.bytes.now ≡ Err f) }
+    {
+        let bytes = self.bytes;
+        let mut place = 3 + 4 * self.count;
+        for index in 0..self.count {
+            let end = place + extent(bytes, index);
+            let rule = Cursor { bytes, place, end };
+            if let Err(fault) = rule.rule() {
+                return Err(EntryAt { index, fault }.into());
+            }
+            place = end;
+        }
+        Ok(())
+    }
 }
 
 impl Entries for Rules {
@@ -110,12 +123,13 @@ impl Entries for Rules {
     #[tactic(auto, using(crate::proofs::Checking::rules_exact))]
     fn check(bytes: &[u8]) -> Result<usize, Fault> {
         let count = read_count(VolumeKind::Rules, bytes)?;
-        check_rising(bytes, count)?;
-        let end = rules_end(bytes, count);
+        let contents = RuleContents { bytes, count };
+        contents.check_rising()?;
+        let end = contents.rules_end(count);
         if end != bytes.len() {
             return Err(volume_fault(VolumeFault::Ends, end));
         }
-        check_bodies(bytes, count)?;
+        contents.check_bodies()?;
         Ok(count)
     }
 
@@ -139,10 +153,14 @@ impl<'a> Volume<'a, Rules> {
         if index >= self.count {
             return None;
         }
+        let contents = RuleContents {
+            bytes: self.bytes,
+            count: self.count,
+        };
         Some(Cursor {
             bytes: self.bytes,
-            place: rules_end(self.bytes, index),
-            end: rules_end(self.bytes, index + 1),
+            place: contents.rules_end(index),
+            end: contents.rules_end(index + 1),
         })
     }
 

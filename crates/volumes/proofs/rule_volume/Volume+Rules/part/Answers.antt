@@ -1,12 +1,13 @@
-use Rattle.std.proofs.Common.{arith}
+use Rattle.std.proofs.Common.{◌∙◌, arith}
 use Rattle.volumes.proofs.Had.{rule_there}
 use Rattle.volumes.proofs.rule_volume.Volume+Rules.part.Goals as goal
 
-pub rules_end-requires : goal.rules_end-requires
-rules_end-requires c = let t = rule_there c.args.self.now.bytes.now c.args.index (omega arith) in (omega arith, (t.few, (t.contents, t.head)))
-
-pub rules_end-requires-2 : goal.rules_end-requires-2
-rules_end-requires-2 c = let t = rule_there c.args.self.now.bytes.now c.args.index (omega arith) in (omega arith, (t.few, (t.contents, t.head)))
+pub invariant_of-contents : goal.invariant_of-contents
+invariant_of-contents c =
+    let t = rule_there c.args.self.now.bytes.now c.args.index (omega arith) in
+    let all = t.all in
+    let count = c.args.self.now.counted in
+    record { counted = count ∙ all; few = omega arith; whole = omega arith }
 
 pub invariant_of-result : goal.invariant_of-result
 invariant_of-result c =
