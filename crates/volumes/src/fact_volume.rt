@@ -1,5 +1,5 @@
 //! Fact volumes.
-ghost use Rattle.std.specs.Prelude.{◌≡◌, ◌+◌, ◌*◌, ◌<◌, ◌≤◌, List, length, IfOk, Ok, Err, MatchResult, refl};
+ghost use Rattle.std.specs.Prelude.{◌≡◌, ◌+◌, ◌*◌, ◌≤◌, List, length, IfOk, Ok, Err, MatchResult, refl};
 ghost use Rattle.rules.specs.Logic.{Formula, formula_of};
 ghost use Rattle.rules.specs.Text.{formula_text};
 ghost use Rattle.volumes.specs.Layout.{ContentsWhole, count as count_of, fact_place as place_of, span, FactVolumeSays};
@@ -63,6 +63,7 @@ fn facts_end(bytes: &[u8], count: usize) -> Result<usize, Fault>
         place: 3 + 2 * count,
         end: bytes.len(),
     };
+    // By index, since the fact's place in the contents follows from it, and a fault names it.
     for index in 0..count {
         cursor.fact(index)?;
     }

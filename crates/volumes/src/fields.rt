@@ -21,7 +21,7 @@ impl<'a> Cursor<'a> {
         ensures value { result ≡ read_byte self.old.bytes.now self.old.end self.old.place }
         ensures moved { OnOk result (Past self.old 1 self.new) }
     {
-        if self.end - self.place < 1 {
+        if self.place == self.end {
             return Err(Cut { place: self.end });
         }
         let byte = self.bytes[self.place];

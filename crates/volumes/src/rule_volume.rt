@@ -1,6 +1,6 @@
 //! Rule volumes.
-ghost use Rattle.std.specs.Prelude.{◌≡◌, ℕ, ◌+◌, ◌-◌, ◌*◌, ◌<◌, ◌≤◌, List, length, Ok, Err, MatchResult, refl};
-ghost use Rattle.volumes.specs.Layout.{Numbered, contents_end, count as count_of, number as number_of, extent as extent_of, rules_end, ContentsWhole, RuleVolumeSays};
+ghost use Rattle.std.specs.Prelude.{◌≡◌, ℕ, ◌+◌, ◌-◌, ◌*◌, ◌≤◌, List, length, Ok, Err, MatchResult, refl};
+ghost use Rattle.volumes.specs.Layout.{Numbered, count as count_of, number as number_of, extent as extent_of, rules_end, RuleVolumeSays};
 ghost use Rattle.volumes.specs.Reading.{read_rising, read_rule_entries, read_rules};
 ghost use Rattle.volumes.specs.Answers.{Checked};
 ghost use Rattle.volumes.specs.Text.{numbered_text};
@@ -56,7 +56,7 @@ struct RuleContents<'a> {
     ghost whole: { 3 + 4 * count ≤ length bytes.now },
 }
 
-// The loops go by index, since a fault names the index, and an entry's place follows from it.
+// The loops count indices, since an entry's place in the contents follows from its index, and a fault names it.
 impl<'a> RuleContents<'a> {
     /// Whether each number is above the one before it.
     fn check_rising(&self) -> Result<(), Fault>

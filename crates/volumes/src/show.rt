@@ -20,6 +20,7 @@ impl<'a, E: Entries> fmt::Display for Volume<'a, E> {
     ghost output = { λ v. Some (lines E.text (taken (E.read v.bytes.now))) };
 
     fn fmt<W: fmt::Write>(&self, f: &mut fmt::Formatter<W>) -> fmt::Result {
+        // By index, since that is how an entry is had.
         for i in 0..self.count {
             let entry = E::entry(self, i).unwrap();
             writeln!(f, "{entry}")?;
