@@ -3,14 +3,13 @@
 
 ghost use Rattle.std.specs.Prelude.{Some};
 ghost use Rattle.std.specs.Fmt.{WritesOnOk};
-ghost use Rattle.volumes.specs.Reading.{read_rules, read_facts};
-ghost use Rattle.volumes.specs.Text.{rules_text, facts_text};
+ghost use Rattle.volumes.specs.Text.{lines};
 ghost use Rattle.contents.specs.Text.{answer_text, volume_text};
 
 use std::alloc::Global;
 use std::io::Read;
 use std::{fmt, io};
-use volumes::{FactVolume, RuleVolume, check_facts, check_rules};
+use volumes::{Entries, Facts, Rules, Volume};
 
 /// Longer input is cut here.
 const MOST_BYTES: u64 = 65536;
@@ -26,32 +25,20 @@ impl<'a> fmt::Display for Contents<'a> {
     ghost output = { λ c. Some (volume_text c.bytes.now) };
 
     fn fmt<W: fmt::Write>(&self, f: &mut fmt::Formatter<W>) -> fmt::Result {
-        if !self.bytes.is_empty() && self.bytes[0] == 2 {
-            write_facts(self.bytes, f)
+        if self.bytes.first() == Some(&2) {
+            write_volume::<Facts, W>(self.bytes, f)
         } else {
-            write_rules(self.bytes, f)
+            write_volume::<Rules, W>(self.bytes, f)
         }
     }
 }
 
-fn write_rules<W: fmt::Write>(bytes: &[u8], f: &mut fmt::Formatter<W>) -> fmt::Result
-    ensures { WritesOnOk W.write_str_gives f.old result (answer_text rules_text (read_rules bytes.now)) f.new }
+fn write_volume<E: Entries, W: fmt::Write>(bytes: &[u8], f: &mut fmt::Formatter<W>) -> fmt::Result
+    ensures { WritesOnOk W.write_str_gives f.old result (answer_text (lines E.text) (E.read bytes.now)) f.new }
 {
-    match check_rules(bytes) {
+    match E::check(bytes) {
         Ok(_) => {
-            let volume = RuleVolume::take_up(bytes);
-            write!(f, "{volume}")
-        }
-        Err(fault) => writeln!(f, "{fault}"),
-    }
-}
-
-fn write_facts<W: fmt::Write>(bytes: &[u8], f: &mut fmt::Formatter<W>) -> fmt::Result
-    ensures { WritesOnOk W.write_str_gives f.old result (answer_text facts_text (read_facts bytes.now)) f.new }
-{
-    match check_facts(bytes) {
-        Ok(_) => {
-            let volume = FactVolume::take_up(bytes);
+            let volume = Volume::<E>::take_up(bytes);
             write!(f, "{volume}")
         }
         Err(fault) => writeln!(f, "{fault}"),

@@ -5,14 +5,15 @@ use Rattle.rules.specs.declared.Term.TheVariants.{Constant, Variable, Null}
 use Rattle.rules.specs.declared.Atom.{Atom}
 use Rattle.rules.specs.Logic.{Each, Formula, formula_of}
 use Rattle.rules.specs.Bounds.{Plain, RuleAtom}
-use Rattle.volumes.specs.declared.VolumeKind.TheVariants.{Rules, Facts}
+use Rattle.volumes.specs.declared.kind.VolumeKind.TheVariants.{Rules, Facts}
 use Rattle.faults.specs.declared.AtomFault.{AtomFault}
-use Rattle.volumes.specs.declared.cursor.RuleAtoms.{RuleAtoms}
-use Rattle.volumes.specs.declared.cursor.Placed.{Placed}
+use Rattle.volumes.specs.declared.items.RuleAtoms.{RuleAtoms}
+use Rattle.volumes.specs.declared.items.Placed.{Placed}
 use Rattle.volumes.specs.Sequence.{Stand}
 use Rattle.volumes.specs.Layout.{TermAt, TermSays, AtomSays, span}
 use Rattle.volumes.specs.Reading.{read_atom}
-use Rattle.volumes.specs.Items.{SameRule, Handed}
+use Rattle.volumes.specs.Items.{Handed}
+use Rattle.volumes.specs.Moves.{Past}
 use Rattle.volumes.proofs.Atoms.{atom_right}
 
 -- what holds of each thing that may stand holds of all that do
@@ -42,15 +43,16 @@ module _ (bs : List ℕ) (e p : ℕ) where
   atom_allowed a is some few = record { some = some; few = few; plain = atom_plain (formula_of a) (atom_says _ is) }
 
 -- the reader has moved from s to t past the atom that it read
-pub handed_here : (s t : RuleAtoms) (x : Placed) → read_atom Rules s.bytes.now s.end s.place ≡ Ok (formula_of x.atom) → (1 ≤ x.atom.arity) × (x.atom.arity ≤ 4) × (length (formula_of x.atom).terms ≡ x.atom.arity) → x.place ≡ s.place → t.place ≡ s.place + 3 + 3 * x.atom.arity → x.bytes.now ≡ take (t.place - s.place) (drop s.place s.bytes.now) → SameRule s t → Handed s x t
-handed_here s t x is formed place next part same =
+pub handed_here : (s t : RuleAtoms) (x : Placed) → read_atom Rules s.cursor.bytes.now s.cursor.end s.cursor.place ≡ Ok (formula_of x.atom) → Past s.cursor (3 + 3 * x.atom.arity) t.cursor → (1 ≤ x.atom.arity) × (x.atom.arity ≤ 4) × (length (formula_of x.atom).terms ≡ x.atom.arity) → x.place ≡ s.cursor.place → x.bytes.now ≡ take (t.cursor.place - s.cursor.place) (drop s.cursor.place s.cursor.bytes.now) → Handed s x t
+handed_here s t x is moved formed place part =
     let n = formed.2 in
-    let long : t.place - s.place ≡ span (formula_of x.atom) = omega arith in
+    let next = moved.place in
+    let long : t.cursor.place - s.cursor.place ≡ span (formula_of x.atom) = omega arith in
     record {
-      stands = atom_says s.bytes.now s.end s.place (Ok (formula_of x.atom)) is;
-      allowed = atom_allowed s.bytes.now s.end s.place x.atom is formed.0 formed.1;
-      bytes = part ∙ ap (λ k. take k (drop s.place s.bytes.now)) long;
+      stands = atom_says s.cursor.bytes.now s.cursor.end s.cursor.place (Ok (formula_of x.atom)) is;
+      allowed = atom_allowed s.cursor.bytes.now s.cursor.end s.cursor.place x.atom is formed.0 formed.1;
+      bytes = part ∙ ap (λ k. take k (drop s.cursor.place s.cursor.bytes.now)) long;
       place = place;
-      rule = same;
+      rule = record { bytes = moved.bytes; end = moved.end };
       past = omega arith;
     }

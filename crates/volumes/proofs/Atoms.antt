@@ -4,7 +4,7 @@ use Rattle.std.proofs.lemmas.Bool.Decides.{nat_tests}
 use Rattle.std.proofs.lemmas.Bool.{cases_lt, le-leb}
 use Rattle.rules.specs.declared.Term.{Term}
 use Rattle.rules.specs.Logic.{Formula}
-use Rattle.volumes.specs.declared.VolumeKind.{VolumeKind}
+use Rattle.volumes.specs.declared.kind.VolumeKind.{VolumeKind}
 use Rattle.faults.specs.declared.TermFault.{TermFault}
 use Rattle.faults.specs.declared.AtomFault.{AtomFault}
 use Rattle.faults.specs.declared.AtomFault.TheVariants.{CutShort, Arity}
@@ -108,8 +108,3 @@ module _ (k : VolumeKind) (bs : List ℕ) (e : ℕ) where
 
   pub atoms_only : (p n : ℕ) (r : Result (List Formula × ℕ) AtomFault) → AtomsSay k bs e p n r → read_atoms k bs e p n ≡ r
   atoms_only p n r h = run_only (λ _ q a. AtomSays k bs e q a) (λ _ q a. q + span a) (λ _ q. read_atom k bs e q) (λ i q r h. atom_only q r h) 0 p n r h
-
-  pub atoms_within : (p n : ℕ) (xs : List Formula) (q : ℕ) → p ≤ e → read_atoms k bs e p n ≡ Ok (xs, q) → (q ≤ e) × (length xs ≡ n)
-  atoms_within p n xs q w is =
-      let h : AtomsSay k bs e p n (Ok (xs, q)) = subst (AtomsSay k bs e p n) is (atoms_right p n) in
-      (stand_kept (λ _ q a. AtomSays k bs e q a) (λ _ q a. q + span a) (λ _ q. q ≤ e) (λ i q x a b. (atom_within q x (atom_only q (Ok x) b)).0) 0 p xs q w h.1, h.0)

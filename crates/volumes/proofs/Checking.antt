@@ -1,40 +1,23 @@
 -- One turn of each loop over a volume, and what the check then answers.
-use Rattle.std.proofs.Common.{◌≡◌, ℕ, suc, ◌+◌, ◌-◌, ◌*◌, ◌<◌, ◌≤◌, cond, eqb, ltb, List, length, Ok, Err, Result, sym, refl, ap, ◌∙◌, arith}
-use Rattle.std.proofs.lemmas.Bool.{lt-ltb, eq-eqb}
+use Rattle.std.proofs.Common.{◌≡◌, ℕ, suc, ◌+◌, ◌-◌, ◌*◌, ◌<◌, ◌≤◌, cond, ltb, List, Ok, Err, Result, sym, ap, ◌∙◌, arith}
+use Rattle.std.proofs.lemmas.Bool.{lt-ltb}
 use Rattle.rules.specs.Logic.{Formula, Implication}
-use Rattle.volumes.specs.declared.VolumeKind.TheVariants.{Rules, Facts}
 use Rattle.faults.specs.declared.EntryFault.{EntryFault}
-use Rattle.faults.specs.declared.VolumeFault.TheVariants.{NotRising, Ends}
+use Rattle.faults.specs.declared.VolumeFault.TheVariants.{NotRising}
 use Rattle.faults.specs.declared.Fault.{Fault}
 use Rattle.faults.specs.Faults.{fault, in_volume}
-use Rattle.volumes.specs.Layout.{number, extent, rules_end, count, span, Numbered, RuleVolumeSays, FactVolumeSays}
-use Rattle.volumes.specs.Reading.{and_then, above, read_run, read_rule, read_count, read_rising, read_rule_entry, read_rule_entries, read_rules, read_fact_entry, read_fact_entries, read_facts}
-use Rattle.volumes.specs.Answers.{TheAnswer, counted, taken, Checked, TakenUp}
+use Rattle.volumes.specs.Layout.{number, extent, count, span, Numbered, RuleVolumeSays, FactVolumeSays}
+use Rattle.volumes.specs.Reading.{and_then, above, read_run, read_rule, read_rising, read_rule_entry, read_rule_entries, read_rules, read_fact_entry, read_fact_entries, read_facts}
+use Rattle.volumes.specs.Answers.{TheAnswer}
 use Rattle.volumes.proofs.RuleVolumes.{rules_right, rules_only}
 use Rattle.volumes.proofs.FactVolumes.{facts_right, facts_only}
 
 -- the model's answer is the one that the layout allows
-module _ {A : Type 0} (Says : Result (List A) Fault → Type 0) (a : Result (List A) Fault) (right : Says a) (only : (b : Result (List A) Fault) → Says b → a ≡ b) where
-  the_answer : TheAnswer Says a
-  the_answer = record { right = right; only = λ b h. sym (only b h) }
+pub rules_exact : (bs : List ℕ) → TheAnswer (RuleVolumeSays bs) (read_rules bs)
+rules_exact bs = record { right = rules_right bs; only = λ b h. sym (rules_only bs b h) }
 
-  checked_by : (r : Result ℕ Fault) → r ≡ counted a → Checked Says r
-  checked_by r e = record { answer = a; the = the_answer; told = e }
-
-  taken_up_by : TakenUp Says (taken a)
-  taken_up_by = record { answer = a; the = the_answer; are = refl }
-
-pub rules_checked : (bs : List ℕ) (r : Result ℕ Fault) → r ≡ counted (read_rules bs) → Checked (RuleVolumeSays bs) r
-rules_checked bs r e = checked_by (RuleVolumeSays bs) (read_rules bs) (rules_right bs) (rules_only bs) r e
-
-pub rules_taken_up : (bs : List ℕ) → TakenUp (RuleVolumeSays bs) (taken (read_rules bs))
-rules_taken_up bs = taken_up_by (RuleVolumeSays bs) (read_rules bs) (rules_right bs) (rules_only bs)
-
-pub facts_checked : (bs : List ℕ) (r : Result ℕ Fault) → r ≡ counted (read_facts bs) → Checked (FactVolumeSays bs) r
-facts_checked bs r e = checked_by (FactVolumeSays bs) (read_facts bs) (facts_right bs) (facts_only bs) r e
-
-pub facts_taken_up : (bs : List ℕ) → TakenUp (FactVolumeSays bs) (taken (read_facts bs))
-facts_taken_up bs = taken_up_by (FactVolumeSays bs) (read_facts bs) (facts_right bs) (facts_only bs)
+pub facts_exact : (bs : List ℕ) → TheAnswer (FactVolumeSays bs) (read_facts bs)
+facts_exact bs = record { right = facts_right bs; only = λ b h. sym (facts_only bs b h) }
 
 module _ (bs : List ℕ) where
   -- the numbers from that of index i - 1 on
@@ -66,21 +49,3 @@ module _ (bs : List ℕ) where
 
   pub fact_entries : (n : ℕ) (r : Result (List Formula × ℕ) Fault) → n ≡ count bs → read_run (read_fact_entry bs) (λ _ p a. p + span a) 0 (3 + 2 * n) n ≡ r → read_fact_entries bs ≡ r
   fact_entries n r e h = ap (λ k. read_run (read_fact_entry bs) (λ _ p a. p + span a) 0 (3 + 2 * k) k) (sym e) ∙ h
-
-  -- the check goes through
-  pub rules_all : (n : ℕ) → read_count Rules bs ≡ Ok n → read_rising bs 0 (n - 1) ≡ Ok tt → rules_end bs n ≡ length bs → (xs : List Numbered) (q : ℕ) → length xs ≡ n → read_rule_entries bs ≡ Ok (xs, q) → counted (read_rules bs) ≡ Ok n
-  rules_all n some rise end xs q l e =
-      ap counted
-      (ap (λ r. and_then r (λ n. and_then (read_rising bs 0 (n - 1)) (λ _. cond (eqb (rules_end bs n) (length bs)) (and_then (read_rule_entries bs) (λ xs. Ok xs.0)) (Err (fault Ends 0 (rules_end bs n)))))) some
-      ∙ ap (λ r. and_then r (λ _. cond (eqb (rules_end bs n) (length bs)) (and_then (read_rule_entries bs) (λ xs. Ok xs.0)) (Err (fault Ends 0 (rules_end bs n))))) rise
-      ∙ ap (λ b. cond b (and_then (read_rule_entries bs) (λ xs. Ok xs.0)) (Err (fault Ends 0 (rules_end bs n)))) (eq-eqb (rules_end bs n) (length bs) end)
-      ∙ ap (λ r. and_then r (λ xs. Ok xs.0)) e)
-      ∙ ap (λ k. Ok k) l
-
-  pub facts_all : (n : ℕ) → read_count Facts bs ≡ Ok n → (xs : List Formula) (q : ℕ) → read_fact_entries bs ≡ Ok (xs, q) → length xs ≡ n → q ≡ length bs → counted (read_facts bs) ≡ Ok n
-  facts_all n some xs q read l e =
-      ap counted
-      (ap (λ r. and_then r (λ _. and_then (read_fact_entries bs) (λ xs. cond (eqb xs.1 (length bs)) (Ok xs.0) (Err (fault Ends 0 xs.1))))) some
-      ∙ ap (λ r. and_then r (λ xs. cond (eqb xs.1 (length bs)) (Ok xs.0) (Err (fault Ends 0 xs.1)))) read
-      ∙ ap (λ b. cond b (Ok xs) (Err (fault Ends 0 q))) (eq-eqb q (length bs) e))
-      ∙ ap (λ k. Ok k) l

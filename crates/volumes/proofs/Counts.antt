@@ -1,18 +1,12 @@
 -- The count of a volume is read exactly where its contents are whole, and a fault is the first one before them.
-use Rattle.std.proofs.Common.{◌≡◌, ℕ, zero, suc, ◌+◌, ◌*◌, ◌<◌, ◌≤◌, cond, ◌⊎◌, List, length, Ok, Err, Result, sym, refl, ap, ◌∙◌, subst, inl, inr, ⊎_elim, arith}
+use Rattle.std.proofs.Common.{◌≡◌, ℕ, zero, suc, ◌+◌, ◌*◌, ◌<◌, ◌≤◌, cond, ◌⊎◌, List, length, Ok, Err, sym, refl, ap, ◌∙◌, subst, inl, inr, ⊎_elim, arith}
 use Rattle.std.proofs.lemmas.Bool.{cases_lt, cases_eq, le-leb, lt-leb, eq-eqb, ne_eqb, lt-ltb, le-ltb}
-use Rattle.volumes.specs.declared.VolumeKind.{VolumeKind}
+use Rattle.volumes.specs.declared.kind.VolumeKind.{VolumeKind}
 use Rattle.faults.specs.declared.VolumeFault.TheVariants.{Short, FirstByte, TooMany, NotRising}
 use Rattle.faults.specs.declared.Fault.{Fault}
 use Rattle.faults.specs.Faults.{fault}
 use Rattle.volumes.specs.Layout.{at, first_byte_of, most, count, contents_end, ContentsWhole, ContentsWrong, number}
 use Rattle.volumes.specs.Reading.{read_count, read_rising}
-use Rattle.volumes.proofs.Steps.{said}
-
--- what is said of the contents
-abbrev pub CountSays : VolumeKind → List ℕ → Result ℕ Fault → Type 0
-CountSays k bs (Ok n) = ContentsWhole k bs × (n ≡ count bs)
-CountSays k bs (Err f) = ContentsWrong k bs f
 
 module _ (k : VolumeKind) (bs : List ℕ) where
   pub whole_count : ContentsWhole k bs → read_count k bs ≡ Ok (count bs)
@@ -23,10 +17,6 @@ module _ (k : VolumeKind) (bs : List ℕ) where
   wrong_count f (ContentsWrong.first_byte a b is) = rw (le-leb _ _ a, ne_eqb _ _ b) (ap (λ f. Err f) (sym is))
   wrong_count f (ContentsWrong.too_many a b d is) = rw (le-leb _ _ a, eq-eqb _ _ b, lt-leb _ _ d) (ap (λ f. Err f) (sym is))
   wrong_count f (ContentsWrong.no_contents a b d g is) = rw (le-leb _ _ a, eq-eqb _ _ b, le-leb _ _ d, lt-leb _ _ g) (ap (λ f. Err f) (sym is))
-
-  pub count_only : (r : Result ℕ Fault) → CountSays k bs r → read_count k bs ≡ r
-  count_only (Ok n) h = whole_count h.0 ∙ ap (λ n. Ok n) (sym h.1)
-  count_only (Err f) h = wrong_count f h
 
   -- the contents are whole, or there is a fault
   pub contents_some : ContentsWhole k bs ⊎ ((f : Fault) × ContentsWrong k bs f)
@@ -44,17 +34,6 @@ module _ (k : VolumeKind) (bs : List ℕ) where
       (λ n. inr (fault FirstByte 0 0, ContentsWrong.first_byte a n refl))
       (cases_eq (at bs 0) (first_byte_of k)))
       (cases_lt (length bs) 3)
-
-  pub count_says : CountSays k bs (read_count k bs)
-  count_says =
-      said (CountSays k bs) (read_count k bs) count_only
-      (⊎_elim (λ h. (Ok (count bs), (h, refl))) (λ w. (Err w.0, w.1)) contents_some)
-
-  pub count_right : (n : ℕ) → read_count k bs ≡ Ok n → ContentsWhole k bs × (n ≡ count bs)
-  count_right n is = subst (CountSays k bs) is count_says
-
-  pub count_fault : (f : Fault) → read_count k bs ≡ Err f → ContentsWrong k bs f
-  count_fault f is = subst (CountSays k bs) is count_says
 
 -- the numbers from that of index i on to that of index j rise
 abbrev pub RiseTo : List ℕ → ℕ → ℕ → Type 0

@@ -2,7 +2,7 @@
 use Rattle.std.proofs.Common.{◌≡◌, ℕ, ◌+◌, ◌*◌, ◌<◌, ◌≤◌, cond, eqb, List, [], length, get_or, Ok, Err, Result, sym, refl, ap, ◌∙◌, subst, ⊎_elim, arith}
 use Rattle.std.proofs.lemmas.Bool.{cases_eq, eq-eqb, ne_eqb}
 use Rattle.rules.specs.Logic.{Formula}
-use Rattle.volumes.specs.declared.VolumeKind.TheVariants.{Facts}
+use Rattle.volumes.specs.declared.kind.VolumeKind.TheVariants.{Facts}
 use Rattle.faults.specs.declared.AtomFault.{AtomFault}
 use Rattle.faults.specs.declared.VolumeFault.TheVariants.{Ends, Misplaced}
 use Rattle.faults.specs.declared.Fault.{Fault}

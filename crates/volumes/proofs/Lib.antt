@@ -7,6 +7,7 @@ pub mod Counts
 pub mod RuleVolumes
 pub mod FactVolumes
 pub mod Loops
+pub mod Moved
 pub mod AtomSays
 pub mod Passing
 pub mod RuleReading

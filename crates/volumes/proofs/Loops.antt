@@ -1,5 +1,5 @@
 -- One turn of a loop that reads one thing after another.
-use Rattle.std.proofs.Common.{◌≡◌, ℕ, ◌+◌, ◌<◌, List, [], ◌∷◌, ◌++◌, length, Ok, Err, Result, sym, ap, ◌∙◌, subst, zero-add, arith}
+use Rattle.std.proofs.Common.{◌≡◌, ℕ, ◌+◌, ◌<◌, List, [], ◌∷◌, ◌++◌, length, Ok, Err, Result, sym, refl, ap, ◌∙◌, subst, zero-add, arith}
 use Rattle.std.proofs.lemmas.List.{length_push}
 use Rattle.volumes.specs.Sequence.{Stand}
 use Rattle.volumes.specs.Reading.{read_run}
@@ -14,10 +14,11 @@ module _ {A E : Type 0} (read : ℕ → ℕ → Result A E) (next : ℕ → ℕ 
   index : 0 + length xs ≡ i
   index = zero-add (length xs) ∙ long
 
-  pub reads_more : (x : A) → read i q ≡ Ok x → Reads read next p (xs ++ x ∷ []) (next i q x)
-  reads_more x e =
-      subst (λ (j : ℕ). Reads read next p (xs ++ x ∷ []) (next j q x)) index
-      (stand_more (λ i r x. read i r ≡ x) next 0 p xs q x h (subst (λ (j : ℕ). read j q ≡ Ok x) (sym index) e))
+  -- one thing further: the things ys, which end at r
+  pub reads_more : (x : A) (ys : List A) (r : ℕ) → read i q ≡ Ok x → next i q x ≡ r → ys ≡ xs ++ x ∷ [] → Reads read next p ys r
+  reads_more x ys r e to are =
+      let more = stand_more (λ i r x. read i r ≡ x) next 0 p xs q x h (subst (λ (j : ℕ). read j q ≡ Ok x) (sym index) e) in
+      rw are (subst (Reads read next p (xs ++ x ∷ [])) (ap (λ j. next j q x) index ∙ to) more)
 
   pub reads_stop : (n : ℕ) (f : E) → i < n → read i q ≡ Err f → read_run read next 0 p n ≡ Err f
   reads_stop n f l e = run_err read next 0 p xs q n f h (omega arith) (subst (λ (j : ℕ). read j q ≡ Err f) (sym index) e)
@@ -28,4 +29,4 @@ module _ {A E : Type 0} (read : ℕ → ℕ → Result A E) (next : ℕ → ℕ 
   -- the turn's invariant again, one thing further
   pub reads_on : (x : A) (r : ℕ) → read i q ≡ Ok x → next i q x ≡ r → (ys : List A) × (length ys ≡ i + 1) × Reads read next p ys r
   reads_on x r e to =
-      (xs ++ x ∷ [], length_push xs x ∙ ap (λ n. n + 1) long, subst (λ (k : ℕ). Reads read next p (xs ++ x ∷ []) k) to (reads_more x e))
+      (xs ++ x ∷ [], length_push xs x ∙ ap (λ n. n + 1) long, reads_more x (xs ++ x ∷ []) r e to refl)

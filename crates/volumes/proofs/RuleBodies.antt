@@ -5,7 +5,7 @@ use Rattle.std.proofs.lemmas.List.{take_at, drop_at, length-take-le, take-append
 use Rattle.std.proofs.lemmas.Bool.{cases_lt, cases_eq, le-leb, eq-eqb, ne_eqb, lt-leb}
 use Rattle.rules.specs.Logic.{Formula, Implication}
 use Rattle.rules.specs.Bounds.{existentials}
-use Rattle.volumes.specs.declared.VolumeKind.TheVariants.{Rules}
+use Rattle.volumes.specs.declared.kind.VolumeKind.TheVariants.{Rules}
 use Rattle.faults.specs.declared.AtomFault.{AtomFault}
 use Rattle.faults.specs.declared.EntryFault.{EntryFault}
 use Rattle.faults.specs.declared.EntryFault.TheVariants.{EntryEnded, Count, Left, Existentials}

@@ -2,7 +2,7 @@
 use Rattle.std.proofs.Common.{◌≡◌, ℕ, zero, suc, ◌+◌, ◌-◌, ◌*◌, ◌<◌, ◌≤◌, cond, eqb, List, length, get_or, Ok, Err, Result, sym, refl, ap, ◌∙◌, subst, ⊎_elim, add-zero, add-suc, add-one, arith}
 use Rattle.std.proofs.lemmas.Bool.{cases_eq, eq-eqb, ne_eqb}
 use Rattle.rules.specs.Logic.{Implication}
-use Rattle.volumes.specs.declared.VolumeKind.TheVariants.{Rules}
+use Rattle.volumes.specs.declared.kind.VolumeKind.TheVariants.{Rules}
 use Rattle.faults.specs.declared.EntryFault.{EntryFault}
 use Rattle.faults.specs.declared.VolumeFault.TheVariants.{Ends, NotRising}
 use Rattle.faults.specs.declared.Fault.{Fault}
@@ -27,6 +27,10 @@ module _ (bs : List ℕ) where
   ends_rise i n h =
       let e : i + (n - i) ≡ n = omega arith in
       subst (λ (k : ℕ). rules_end bs i ≤ rules_end bs k) e (ends_add i (n - i))
+
+  -- a rule before the last one ends before the last one does
+  pub rule_within : (i n s : ℕ) → s ≡ rules_end bs i → i < n → s + extent bs i ≤ rules_end bs n
+  rule_within i n s e l = let up = ends_rise (i + 1) n (omega arith) in let more = ends_more i in omega arith
 
   pub rule_entry_only : (i s : ℕ) (r : Result Numbered Fault) → RuleEntry bs i s r → read_rule_entry bs i s ≡ r
   rule_entry_only i s (Ok x) h =

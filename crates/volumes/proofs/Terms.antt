@@ -4,8 +4,8 @@ use Rattle.std.proofs.lemmas.Bool.Decides.{nat_tests}
 use Rattle.std.proofs.lemmas.Bool.{cases_lt, cases_eq}
 use Rattle.rules.specs.declared.Term.{Term}
 use Rattle.rules.specs.declared.Term.TheVariants.{Constant, Variable, Null}
-use Rattle.volumes.specs.declared.VolumeKind.{VolumeKind}
-use Rattle.volumes.specs.declared.VolumeKind.TheVariants.{Rules, Facts}
+use Rattle.volumes.specs.declared.kind.VolumeKind.{VolumeKind}
+use Rattle.volumes.specs.declared.kind.VolumeKind.TheVariants.{Rules, Facts}
 use Rattle.faults.specs.declared.TermFault.{TermFault}
 use Rattle.faults.specs.declared.TermFault.TheVariants.{Ended, Kind, Number}
 use Rattle.faults.specs.Faults.{cut_at}

@@ -1,5 +1,5 @@
--- What the check of a volume answers, and what is taken up.
-use Rattle.std.specs.Prelude.{◌≡◌, ℕ, List, [], length, Ok, Err, Result}
+-- What the check of a volume answers, what is taken up, and what is had of that.
+use Rattle.std.specs.Prelude.{◌≡◌, ℕ, ◌<◌, ◌≤◌, List, [], length, Some, None, Option, Ok, Err, Result, slice_index_or}
 use Rattle.faults.specs.declared.Fault.{Fault}
 
 -- a is right by the layout, and nothing else is
@@ -28,3 +28,12 @@ pub record TakenUp {A : Type 0} (Says : Result (List A) Fault → Type 0) (xs : 
   pub answer : Result (List A) Fault
   pub the : TheAnswer Says answer
   pub are : xs ≡ taken answer
+
+-- x is the element of index i
+abbrev pub Nth : {A : Type 0} → List A → ℕ → A → Type 0
+Nth {A} xs i x = (i < length xs) × ((d : A) → slice_index_or xs i d ≡ x)
+
+-- what is had of index i means the element of that index, or is none where there are not so many
+abbrev pub Had : {E A : Type 0} → (E → A) → List A → ℕ → Option E → Type 0
+Had means xs i (Some e) = Nth xs i (means e)
+Had means xs i None = length xs ≤ i

@@ -7,8 +7,8 @@ use Rattle.rules.specs.declared.Term.{Term}
 use Rattle.rules.specs.declared.Term.TheVariants.{Constant, Variable, Null}
 use Rattle.rules.specs.Logic.{Formula, Implication}
 use Rattle.rules.specs.Bounds.{existentials}
-use Rattle.volumes.specs.declared.VolumeKind.{VolumeKind}
-use Rattle.volumes.specs.declared.VolumeKind.TheVariants.{Rules, Facts}
+use Rattle.volumes.specs.declared.kind.VolumeKind.{VolumeKind}
+use Rattle.volumes.specs.declared.kind.VolumeKind.TheVariants.{Rules, Facts}
 use Rattle.faults.specs.declared.TermFault.{TermFault}
 use Rattle.faults.specs.declared.TermFault.TheVariants.{Ended, Kind, Number}
 use Rattle.faults.specs.declared.AtomFault.{AtomFault}

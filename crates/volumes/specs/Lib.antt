@@ -2,6 +2,7 @@ pub mod Answers
 pub mod Handing
 pub mod Items
 pub mod Layout
+pub mod Moves
 pub mod Parts
 pub mod Reading
 pub mod Sequence

@@ -1,13 +1,15 @@
 -- The readers as functions of the bytes: a model, which the code is shown to be equal to.
 -- What it means is said by `Layout`: the model's answer is the one that the layout allows.
-use Rattle.std.specs.Prelude.{ℕ, zero, suc, ◌+◌, ◌-◌, ◌*◌, Bool, cond, ◌&&◌, ◌||◌, List, [], ◌∷◌, length, take, drop, Ok, Err, Result, ◌==◌, nat_le, nat_lt}
+use Rattle.std.specs.Prelude.{ℕ, zero, suc, ◌+◌, ◌-◌, ◌*◌, Bool, cond, ◌&&◌, ◌||◌, List, [], ◌∷◌, length, take, drop, Some, None, Option, Ok, Err, Result, ◌==◌, nat_le, nat_lt}
 use Rattle.std.specs.Result.{result_map_both}
 use Rattle.rules.specs.declared.Term.{Term}
 use Rattle.rules.specs.declared.Term.TheVariants.{Constant, Variable, Null}
 use Rattle.rules.specs.Logic.{Formula, Implication}
 use Rattle.rules.specs.Bounds.{existentials}
-use Rattle.volumes.specs.declared.VolumeKind.{VolumeKind}
-use Rattle.volumes.specs.declared.VolumeKind.TheVariants.{Rules, Facts}
+use Rattle.volumes.specs.declared.kind.VolumeKind.{VolumeKind}
+use Rattle.volumes.specs.declared.kind.VolumeKind.TheVariants.{Rules, Facts}
+use Rattle.volumes.specs.declared.kind.TermKind.{TermKind}
+use Rattle.volumes.specs.declared.kind.TermKind.TheVariants as kind
 use Rattle.faults.specs.declared.Cut.{Cut}
 use Rattle.faults.specs.declared.TermFault.{TermFault}
 use Rattle.faults.specs.declared.TermFault.TheVariants.{Ended, Kind, Number}
@@ -44,6 +46,14 @@ read_pair bs e p = cond (nat_le (p + 2) e) (Ok (pair bs p)) (Err (cut_at e))
 
 abbrev pub allowed? : VolumeKind → ℕ → Bool
 allowed? k b = b == 0 || b == other_kind k
+
+-- the kind of a term that has this kind byte, or none where no such term may stand
+abbrev pub term_kind_of : VolumeKind → TermKind
+term_kind_of Rules = kind.Variable
+term_kind_of Facts = kind.Null
+
+abbrev pub kind_of : VolumeKind → ℕ → Option TermKind
+kind_of k b = cond (b == 0) (Some kind.Constant) (cond (b == other_kind k) (Some (term_kind_of k)) None)
 
 abbrev pub other_term : VolumeKind → ℕ → ℕ → Result Term TermFault
 other_term Rules p n = cond (nat_le n 11) (Ok (Variable n)) (Err (Number (p + 1)))

@@ -5,18 +5,17 @@ use Rattle.rules.specs.Logic.{Formula}
 use Rattle.rules.specs.Text.{formula_text, rule_text}
 use Rattle.volumes.specs.Layout.{Numbered}
 
--- a rule's number, a colon and the rule, as a line
-abbrev pub rule_line : Numbered → List ℕ
-rule_line x = decimal x.number ++ (codes ": " ++ (rule_text x.rule ++ codes "\n"))
+-- a rule's number, a colon and the rule
+abbrev pub numbered_text : Numbered → List ℕ
+numbered_text x = decimal x.number ++ (codes ": " ++ rule_text x.rule)
 
--- a fact, as a line
-abbrev pub fact_line : Formula → List ℕ
-fact_line a = formula_text a ++ codes "\n"
+-- a line for each thing, by its text
+abbrev pub lines : {A : Type 0} → (A → List ℕ) → List A → List ℕ
+lines text xs = concat (map (λ x. text x ++ codes "\n") xs)
 
--- a line for each rule, in the order of the contents
+-- a line for each rule or fact, in the order of the contents
 abbrev pub rules_text : List Numbered → List ℕ
-rules_text xs = concat (map rule_line xs)
+rules_text = lines numbered_text
 
--- a line for each fact, in the order of the contents
 abbrev pub facts_text : List Formula → List ℕ
-facts_text xs = concat (map fact_line xs)
+facts_text = lines formula_text

@@ -1,118 +1,125 @@
 //! Fact volumes.
-ghost use Rattle.std.specs.Prelude.{◌≡◌, ◌+◌, ◌*◌, ◌<◌, ◌≤◌, List, length, IfOk, Ok, Err, MatchResult};
+ghost use Rattle.std.specs.Prelude.{◌≡◌, ◌+◌, ◌*◌, ◌≤◌, List, length, IfOk, Ok, Err, MatchResult, refl};
 ghost use Rattle.rules.specs.Logic.{Formula, formula_of};
-ghost use Rattle.volumes.specs.declared.VolumeKind.TheVariants.{Facts};
-ghost use Rattle.volumes.specs.Layout.{ContentsWhole, count as count_of, FactVolumeSays};
-ghost use Rattle.faults.specs.Faults.{entry_fault};
-ghost use Rattle.volumes.specs.Reading.{read_atom, read_fact_entry, read_fact_entries, read_facts};
-ghost use Rattle.volumes.specs.Answers.{Checked, TakenUp, counted};
+ghost use Rattle.rules.specs.Text.{formula_text};
+ghost use Rattle.volumes.specs.Layout.{ContentsWhole, count as count_of, fact_place as place_of, span, FactVolumeSays};
+ghost use Rattle.volumes.specs.Moves.{Past};
+ghost use Rattle.volumes.specs.Reading.{read_fact_entry, read_fact_entries, read_facts};
+ghost use Rattle.volumes.specs.Answers.{Checked};
 ghost use Rattle.volumes.specs.Volumes.{facts_of, FactHad};
 
-use crate::VolumeKind;
-use crate::atom::read_atom;
-use crate::contents::read_count;
+use crate::contents::{read_count, volume_fault};
+use crate::cursor::Cursor;
 use crate::fields::pair_at;
-use crate::volume::FactVolume;
-use faults::{AtomFault, EntryAt, Fault, VolumeFault};
+use crate::kind::VolumeKind;
+use crate::volume::{Entries, Volume};
+use faults::{EntryAt, Fault, VolumeFault};
 use rules::Atom;
 
-/// The atom of the fact that begins at `p` and has this index in the contents.
-fn fact_atom(bytes: &[u8], index: usize, p: usize) -> Result<Atom, EntryAt>
-    requires { p ≤ length bytes.now }
-    ensures value { MatchResult result (λ a. read_atom Facts bytes.now (length bytes.now) p ≡ Ok (formula_of a)) (λ f. (f.index ≡ index) × ((a : AtomFault) × (f.fault ≡ entry_fault a) × (read_atom Facts bytes.now (length bytes.now) p ≡ Err a))) }
-    ensures within { IfOk result (λ a. (p + (3 + 3 * a.arity) ≤ length bytes.now) × (length (formula_of a).terms ≡ a.arity)) }
+/// The facts of a fact volume.
+#[derive(Clone, Copy)]
+pub enum Facts {}
+
+/// A fact volume that is taken up.
+pub type FactVolume<'a> = Volume<'a, Facts>;
+
+/// Where the fact of this index begins, as the contents say.
+fn fact_place(bytes: &[u8], index: usize) -> usize
+    requires { 3 + 2 * index + 2 ≤ length bytes.now }
+    ensures { result ≡ place_of bytes.now index }
 {
-    match read_atom(VolumeKind::Facts, bytes, bytes.len(), p) {
-        Ok(atom) => Ok(atom),
-        Err(fault) => Err(EntryAt {
-            index,
-            fault: fault.into(),
-        }),
-    }
+    pair_at(bytes, 3 + 2 * index) as usize
 }
 
-/// The fact of this index in the contents, where the one before it ends at `p`.
-fn fact_at(bytes: &[u8], index: usize, p: usize) -> Result<Atom, Fault>
-    requires { (p ≤ length bytes.now) × (3 + 2 * index + 2 ≤ length bytes.now) }
-    ensures value { MatchResult result (λ a. read_fact_entry bytes.now index p ≡ Ok (formula_of a)) (λ f. read_fact_entry bytes.now index p ≡ Err f) }
-    ensures within { IfOk result (λ a. (p + (3 + 3 * a.arity) ≤ length bytes.now) × (length (formula_of a).terms ≡ a.arity)) }
-{
-    if pair_at(bytes, 3 + 2 * index) as usize != p {
-        return Err(Fault {
-            layer: VolumeFault::Misplaced,
+impl<'a> Cursor<'a> {
+    /// The fact of this index in the contents, where the one before it ends here.
+    fn fact(&mut self, index: usize) -> Result<Atom, Fault>
+        requires { (self.old.end ≡ length self.old.bytes.now) × (3 + 2 * index + 2 ≤ length self.old.bytes.now) }
+        ensures value { MatchResult result (λ a. read_fact_entry self.old.bytes.now index self.old.place ≡ Ok (formula_of a)) (λ f. read_fact_entry self.old.bytes.now index self.old.place ≡ Err f) }
+        ensures moved { IfOk result (λ a. Past self.old (span (formula_of a)) self.new) }
+    {
+        if fact_place(self.bytes, index) != self.place {
+            return Err(Fault {
+                layer: VolumeFault::Misplaced,
+                index,
+                place: 3 + 2 * index,
+            });
+        }
+        let atom = self.atom(VolumeKind::Facts).map_err(|fault| EntryAt {
             index,
-            place: 3 + 2 * index,
-        });
+            fault: fault.into(),
+        })?;
+        Ok(atom)
     }
-    Ok(fact_atom(bytes, index, p)?)
 }
 
 /// Where the last fact ends, if each stands as the contents say.
 fn facts_end(bytes: &[u8], count: usize) -> Result<usize, Fault>
-    requires { (ContentsWhole Facts bytes.now) × (count ≡ count_of bytes.now) }
+    requires { (ContentsWhole VolumeKind.Facts bytes.now) × (count ≡ count_of bytes.now) }
     ensures { MatchResult result (λ q. (xs : List Formula) × (length xs ≡ count) × (read_fact_entries bytes.now ≡ Ok (xs, q))) (λ f. read_fact_entries bytes.now ≡ Err f) }
 {
-    let mut p = 3 + 2 * count;
-    for i in 0..count {
-        let atom = fact_at(bytes, i, p)?;
-        p += 3 + 3 * atom.arity as usize;
+    let mut cursor = Cursor {
+        bytes,
+        place: 3 + 2 * count,
+        end: bytes.len(),
+    };
+    // By index, since the fact's place in the contents follows from it, and a fault names it.
+    for index in 0..count {
+        cursor.fact(index)?;
     }
-    Ok(p)
+    Ok(cursor.place)
 }
 
-fn count_facts(bytes: &[u8]) -> Result<usize, Fault>
-    ensures { result ≡ counted (read_facts bytes.now) }
-{
-    let count = read_count(VolumeKind::Facts, bytes)?;
-    let end = facts_end(bytes, count)?;
-    if end != bytes.len() {
-        return Err(Fault {
-            layer: VolumeFault::Ends,
-            index: 0,
-            place: end,
-        });
+impl Entries for Facts {
+    type Entry = Atom;
+
+    ghost Thing = { Formula };
+
+    ghost means = { formula_of };
+
+    ghost text = { formula_text };
+
+    ghost read = { read_facts };
+
+    ghost Says = { FactVolumeSays };
+
+    ghost shown = { λ _. refl };
+
+    #[tactic(auto, using(crate::proofs::Checking::facts_exact))]
+    fn check(bytes: &[u8]) -> Result<usize, Fault> {
+        let count = read_count(VolumeKind::Facts, bytes)?;
+        let end = facts_end(bytes, count)?;
+        if end != bytes.len() {
+            return Err(volume_fault(VolumeFault::Ends, end));
+        }
+        Ok(count)
     }
-    Ok(count)
+
+    fn entry(volume: &FactVolume<'_>, index: usize) -> Option<Atom> {
+        volume.fact(index)
+    }
 }
 
 /// How many facts the bytes hold as a fact volume, or their first fault.
 pub fn check_facts(bytes: &[u8]) -> Result<usize, Fault>
     ensures { Checked (FactVolumeSays bytes.now) result }
 {
-    count_facts(bytes)
+    Facts::check(bytes)
 }
 
-impl<'a> FactVolume<'a> {
-    /// The volume in the bytes; one of no facts where they fail the check.
-    pub fn take_up(bytes: &'a [u8]) -> FactVolume<'a>
-        ensures facts { TakenUp (FactVolumeSays bytes.now) (facts_of result) }
-        ensures same { result.bytes.now ≡ bytes.now }
-    {
-        let count = match count_facts(bytes) {
-            Ok(n) => n,
-            Err(_) => 0,
-        };
-        FactVolume { bytes, count }
-    }
-
-    /// How many facts there are.
-    pub fn count(&self) -> usize
-        ensures { result ≡ length (facts_of self.now) }
-    {
-        self.count
-    }
-
+impl<'a> Volume<'a, Facts> {
     /// The fact of an index in the contents, or none where there are not so many. Nothing else of the volume is read.
     pub fn fact(&self, index: usize) -> Option<Atom>
-        ensures { FactHad (facts_of self.now) index result }
+        ensures { FactHad (facts_of self.now.bytes.now) index result }
     {
         if index >= self.count {
             return None;
         }
-        let place = pair_at(self.bytes, 3 + 2 * index) as usize;
-        match read_atom(VolumeKind::Facts, self.bytes, self.bytes.len(), place) {
-            Ok(atom) => Some(atom),
-            Err(_) => unreachable(),
-        }
+        let mut cursor = Cursor {
+            bytes: self.bytes,
+            place: fact_place(self.bytes, index),
+            end: self.bytes.len(),
+        };
+        Some(cursor.atom(VolumeKind::Facts).unwrap())
     }
 }

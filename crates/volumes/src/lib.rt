@@ -7,20 +7,14 @@ mod cursor;
 mod fact_volume;
 mod fields;
 mod items;
+mod kind;
 mod rule;
 mod rule_volume;
 mod show;
 mod term;
 mod volume;
 
-pub use cursor::{Item, Placed, RuleAtoms};
-pub use fact_volume::check_facts;
-pub use rule_volume::check_rules;
-pub use volume::{FactVolume, NumberedRule, RuleVolume};
-
-/// What a volume holds.
-#[derive(Clone, Copy)]
-pub(crate) enum VolumeKind {
-    Rules,
-    Facts,
-}
+pub use fact_volume::{FactVolume, Facts, check_facts};
+pub use items::{Item, Placed, RuleAtoms};
+pub use rule_volume::{NumberedRule, RuleVolume, Rules, check_rules};
+pub use volume::{Entries, Volume};

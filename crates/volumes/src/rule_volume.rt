@@ -1,156 +1,187 @@
 //! Rule volumes.
-ghost use Rattle.std.specs.Prelude.{◌≡◌, ℕ, ◌+◌, ◌-◌, ◌*◌, ◌<◌, ◌≤◌, List, length, Ok, Err, MatchResult};
-ghost use Rattle.rules.specs.Logic.{Implication};
-ghost use Rattle.volumes.specs.declared.VolumeKind.TheVariants.{Rules};
-ghost use Rattle.volumes.specs.Layout.{Numbered, contents_end, count as count_of, rules_end, ContentsWhole, RuleVolumeSays};
-ghost use Rattle.volumes.specs.Reading.{read_rising, read_rule, read_rule_entries, read_rules};
-ghost use Rattle.volumes.specs.Answers.{Checked, TakenUp, counted};
-ghost use Rattle.volumes.specs.Volumes.{rules_of, RuleHad, AtomsHad};
+ghost use Rattle.std.specs.Prelude.{◌≡◌, ℕ, ◌+◌, ◌-◌, ◌*◌, ◌≤◌, List, length, Ok, Err, MatchResult, refl};
+ghost use Rattle.volumes.specs.Layout.{Numbered, count as count_of, number as number_of, extent as extent_of, rules_end, RuleVolumeSays};
+ghost use Rattle.volumes.specs.Reading.{read_rising, read_rule_entries, read_rules};
+ghost use Rattle.volumes.specs.Answers.{Checked};
+ghost use Rattle.volumes.specs.Text.{numbered_text};
+ghost use Rattle.volumes.specs.Volumes.{rules_of, numbered, RulePart, RuleHad, AtomsHad};
 
-use crate::VolumeKind;
-use crate::contents::read_count;
-use crate::cursor::RuleAtoms;
+use crate::contents::{read_count, volume_fault};
+use crate::cursor::Cursor;
 use crate::fields::pair_at;
-use crate::rule::read_rule;
-use crate::volume::{NumberedRule, RuleVolume};
+use crate::items::RuleAtoms;
+use crate::kind::VolumeKind;
+use crate::volume::{Entries, Volume};
 use faults::{EntryAt, Fault, VolumeFault};
+use rules::Rule;
 
-/// Whether each number is above the one before it.
-fn check_rising(bytes: &[u8], count: usize) -> Result<(), Fault>
-    requires { (count ≤ 64) × (3 + 4 * count ≤ length bytes.now) }
-    ensures { result ≡ read_rising bytes.now 0 (count - 1) }
+/// The rules of a rule volume.
+#[derive(Clone, Copy)]
+pub enum Rules {}
+
+/// A rule volume that is taken up.
+pub type RuleVolume<'a> = Volume<'a, Rules>;
+
+/// A rule with its number.
+#[derive(Clone, Copy)]
+pub struct NumberedRule {
+    pub number: u16,
+    pub rule: Rule,
+}
+
+/// The number of the rule of this index.
+fn number(bytes: &[u8], index: usize) -> u16
+    requires { 3 + 4 * index + 2 ≤ length bytes.now }
+    ensures { result ≡ number_of bytes.now index }
 {
-    for i in 1..count {
-        if pair_at(bytes, 3 + 4 * (i - 1)) >= pair_at(bytes, 3 + 4 * i) {
-            return Err(Fault {
-                layer: VolumeFault::NotRising,
-                index: i,
-                place: 3 + 4 * i,
-            });
+    pair_at(bytes, 3 + 4 * index)
+}
+
+/// How many bytes the rule of this index has.
+fn extent(bytes: &[u8], index: usize) -> usize
+    requires { 5 + 4 * index + 2 ≤ length bytes.now }
+    ensures value { result ≡ extent_of bytes.now index }
+    ensures few { result ≤ 65535 }
+{
+    pair_at(bytes, 5 + 4 * index) as usize
+}
+
+/// The contents of a rule volume, whole.
+#[derive(Clone, Copy)]
+struct RuleContents<'a> {
+    bytes: &'a [u8],
+    count: usize,
+    ghost counted: { count ≡ count_of bytes.now },
+    ghost few: { count ≤ 64 },
+    ghost whole: { 3 + 4 * count ≤ length bytes.now },
+}
+
+// The loops count indices, since an entry's place in the contents follows from its index, and a fault names it.
+impl<'a> RuleContents<'a> {
+    /// Whether each number is above the one before it.
+    fn check_rising(&self) -> Result<(), Fault>
+        ensures { result ≡ read_rising self.now.bytes.now 0 (self.now.count - 1) }
+    {
+        for index in 1..self.count {
+            if number(self.bytes, index - 1) >= number(self.bytes, index) {
+                return Err(Fault {
+                    layer: VolumeFault::NotRising,
+                    index,
+                    place: 3 + 4 * index,
+                });
+            }
         }
+        Ok(())
     }
-    Ok(())
+
+    /// Where the first `n` rules end.
+    fn rules_end(&self, n: usize) -> usize
+        requires { n ≤ self.now.count }
+        ensures { result ≡ rules_end self.now.bytes.now n }
+    {
+        let mut end = 3 + 4 * self.count;
+        for index in 0..n {
+            end += extent(self.bytes, index);
+        }
+        end
+    }
+
+    /// Whether each rule stands where it should.
+    fn check_bodies(&self) -> Result<(), Fault>
+        requires { rules_end self.now.bytes.now self.now.count ≡ length self.now.bytes.now }
+        ensures { MatchResult result (λ _. (xs : List Numbered) × (q : ℕ) × (length xs ≡ self.now.count) × (read_rule_entries self.now.bytes.now ≡ Ok (xs, q))) (λ f. read_rule_entries self.now.bytes.now ≡ Err f) }
+    {
+        let bytes = self.bytes;
+        let mut place = 3 + 4 * self.count;
+        for index in 0..self.count {
+            let end = place + extent(bytes, index);
+            let rule = Cursor { bytes, place, end };
+            if let Err(fault) = rule.rule() {
+                return Err(EntryAt { index, fault }.into());
+            }
+            place = end;
+        }
+        Ok(())
+    }
 }
 
-/// Where the first `n` rules end, as the contents say.
-fn rules_end(bytes: &[u8], n: usize) -> usize
-    requires { (n ≤ count_of bytes.now) × ((count_of bytes.now ≤ 64) × ((contents_end Rules bytes.now ≤ length bytes.now) × (3 ≤ length bytes.now))) }
-    ensures { result ≡ rules_end bytes.now n }
-{
-    let mut end = 3 + 4 * pair_at(bytes, 1) as usize;
-    for i in 0..n {
-        end += pair_at(bytes, 5 + 4 * i) as usize;
-    }
-    end
-}
+impl Entries for Rules {
+    type Entry = NumberedRule;
 
-/// The rule in the bytes from `start` to `end`, which has this index in the contents.
-fn rule_at(bytes: &[u8], index: usize, end: usize, start: usize) -> Result<(), EntryAt>
-    requires { (start ≤ end) × (end ≤ length bytes.now) }
-    ensures { MatchResult result (λ _. (x : Implication) × (read_rule bytes.now end start ≡ Ok x)) (λ f. (f.index ≡ index) × (read_rule bytes.now end start ≡ Err f.fault)) }
-{
-    match read_rule(bytes, end, start) {
-        Ok(_) => Ok(()),
-        Err(fault) => Err(EntryAt { index, fault }),
-    }
-}
+    ghost Thing = { Numbered };
 
-/// Whether each rule stands as the contents say.
-fn check_bodies(bytes: &[u8], count: usize) -> Result<(), Fault>
-    requires { (ContentsWhole Rules bytes.now) × ((rules_end bytes.now count ≡ length bytes.now) × (count ≡ count_of bytes.now)) }
-    ensures { MatchResult result (λ _. (xs : List Numbered) × (q : ℕ) × (length xs ≡ count) × (read_rule_entries bytes.now ≡ Ok (xs, q))) (λ f. read_rule_entries bytes.now ≡ Err f) }
-{
-    let mut start = 3 + 4 * count;
-    for i in 0..count {
-        let end = start + pair_at(bytes, 5 + 4 * i) as usize;
-        rule_at(bytes, i, end, start)?;
-        start = end;
-    }
-    Ok(())
-}
+    ghost means = { numbered };
 
-fn count_rules(bytes: &[u8]) -> Result<usize, Fault>
-    ensures { result ≡ counted (read_rules bytes.now) }
-{
-    let count = read_count(VolumeKind::Rules, bytes)?;
-    check_rising(bytes, count)?;
-    let end = rules_end(bytes, count);
-    if end != bytes.len() {
-        return Err(Fault {
-            layer: VolumeFault::Ends,
-            index: 0,
-            place: end,
-        });
+    ghost text = { numbered_text };
+
+    ghost read = { read_rules };
+
+    ghost Says = { RuleVolumeSays };
+
+    ghost shown = { λ _. refl };
+
+    #[tactic(auto, using(crate::proofs::Checking::rules_exact))]
+    fn check(bytes: &[u8]) -> Result<usize, Fault> {
+        let count = read_count(VolumeKind::Rules, bytes)?;
+        let contents = RuleContents { bytes, count };
+        contents.check_rising()?;
+        let end = contents.rules_end(count);
+        if end != bytes.len() {
+            return Err(volume_fault(VolumeFault::Ends, end));
+        }
+        contents.check_bodies()?;
+        Ok(count)
     }
-    check_bodies(bytes, count)?;
-    Ok(count)
+
+    fn entry(volume: &RuleVolume<'_>, index: usize) -> Option<NumberedRule> {
+        volume.rule(index)
+    }
 }
 
 /// How many rules the bytes hold as a rule volume, or their first fault.
 pub fn check_rules(bytes: &[u8]) -> Result<usize, Fault>
     ensures { Checked (RuleVolumeSays bytes.now) result }
 {
-    count_rules(bytes)
+    Rules::check(bytes)
 }
 
-impl<'a> RuleVolume<'a> {
-    /// The volume in the bytes; one of no rules where they fail the check.
-    pub fn take_up(bytes: &'a [u8]) -> RuleVolume<'a>
-        ensures rules { TakenUp (RuleVolumeSays bytes.now) (rules_of result) }
-        ensures same { result.bytes.now ≡ bytes.now }
-    {
-        let count = match count_rules(bytes) {
-            Ok(n) => n,
-            Err(_) => 0,
-        };
-        RuleVolume { bytes, count }
-    }
-
-    /// How many rules there are.
-    pub fn count(&self) -> usize
-        ensures { result ≡ length (rules_of self.now) }
-    {
-        self.count
-    }
-
-    /// The rule of an index in the contents with its number, or none where there are not so many.
-    pub fn rule(&self, index: usize) -> Option<NumberedRule>
-        ensures { RuleHad (rules_of self.now) index result }
+impl<'a> Volume<'a, Rules> {
+    /// The bytes of the rule of an index, or none where there are not so many.
+    fn part(&self, index: usize) -> Option<Cursor<'a>>
+        ensures { RulePart self.now.bytes.now index result }
     {
         if index >= self.count {
             return None;
         }
-        let start = rules_end(self.bytes, index);
-        let end = rules_end(self.bytes, index + 1);
-        let number = pair_at(self.bytes, 3 + 4 * index);
-        match read_rule(self.bytes, end, start) {
-            Ok(rule) => Some(NumberedRule { number, rule }),
-            Err(_) => unreachable(),
-        }
+        let contents = RuleContents {
+            bytes: self.bytes,
+            count: self.count,
+        };
+        Some(Cursor {
+            bytes: self.bytes,
+            place: contents.rules_end(index),
+            end: contents.rules_end(index + 1),
+        })
+    }
+
+    /// The rule of an index in the contents with its number, or none where there are not so many.
+    pub fn rule(&self, index: usize) -> Option<NumberedRule>
+        ensures { RuleHad (rules_of self.now.bytes.now) index result }
+    {
+        let part = self.part(index)?;
+        Some(NumberedRule {
+            number: number(self.bytes, index),
+            rule: part.rule().unwrap(),
+        })
     }
 
     /// The reader of the atoms of the rule of an index; one that is at its end where there are not so many.
     pub fn atoms(&self, index: usize) -> RuleAtoms<'a>
-        ensures { AtomsHad self.now index result }
+        ensures { AtomsHad self.now.bytes.now index result }
     {
-        let bytes = self.bytes;
-        if index >= self.count {
-            return RuleAtoms {
-                bytes,
-                place: 0,
-                end: 0,
-                bodies: 0,
-                heads: 0,
-            };
-        }
-        let start = rules_end(bytes, index);
-        let end = rules_end(bytes, index + 1);
-        RuleAtoms {
-            bytes,
-            place: start + 2,
-            end,
-            bodies: bytes[start],
-            heads: bytes[start + 1],
+        match self.part(index) {
+            Some(part) => part.rule_atoms().unwrap(),
+            None => RuleAtoms::none(self.bytes),
         }
     }
 }

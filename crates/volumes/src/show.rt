@@ -1,35 +1,29 @@
 ghost use Rattle.std.specs.Prelude.{Some};
-ghost use Rattle.volumes.specs.Volumes.{rules_of, facts_of};
-ghost use Rattle.volumes.specs.Text.{rules_text, facts_text};
+ghost use Rattle.volumes.specs.Answers.{taken};
+ghost use Rattle.volumes.specs.Volumes.{numbered};
+ghost use Rattle.volumes.specs.Text.{lines, numbered_text};
 
-use crate::volume::{FactVolume, RuleVolume};
+use crate::rule_volume::NumberedRule;
+use crate::volume::{Entries, Volume};
 use std::fmt;
 
-impl<'a> fmt::Display for RuleVolume<'a> {
-    ghost output = { λ v. Some (rules_text (rules_of v)) };
+impl fmt::Display for NumberedRule {
+    ghost output = { λ x. Some (numbered_text (numbered x)) };
 
     fn fmt<W: fmt::Write>(&self, f: &mut fmt::Formatter<W>) -> fmt::Result {
-        for i in 0..self.count() {
-            let Some(entry) = self.rule(i) else {
-                unreachable()
-            };
-            let number = entry.number;
-            let rule = entry.rule;
-            writeln!(f, "{number}: {rule}")?;
-        }
-        Ok(())
+        let NumberedRule { number, rule } = self;
+        write!(f, "{number}: {rule}")
     }
 }
 
-impl<'a> fmt::Display for FactVolume<'a> {
-    ghost output = { λ v. Some (facts_text (facts_of v)) };
+impl<'a, E: Entries> fmt::Display for Volume<'a, E> {
+    ghost output = { λ v. Some (lines E.text (taken (E.read v.bytes.now))) };
 
     fn fmt<W: fmt::Write>(&self, f: &mut fmt::Formatter<W>) -> fmt::Result {
-        for i in 0..self.count() {
-            let Some(fact) = self.fact(i) else {
-                unreachable()
-            };
-            writeln!(f, "{fact}")?;
+        // By index, since that is how an entry is had.
+        for i in 0..self.count {
+            let entry = E::entry(self, i).unwrap();
+            writeln!(f, "{entry}")?;
         }
         Ok(())
     }

@@ -1,58 +1,29 @@
 //! The term reader.
-ghost use Rattle.std.specs.Prelude.{◌≡◌, ◌+◌, ◌≤◌, length, OnOk};
-ghost use Rattle.volumes.specs.Reading.{allowed?, other_term, read_term};
+ghost use Rattle.std.specs.Prelude.{◌≡◌, OnOk};
+ghost use Rattle.volumes.specs.Reading.{read_term};
+ghost use Rattle.volumes.specs.Moves.{Past};
 
-use crate::VolumeKind;
-use crate::fields::{read_byte, read_pair};
+use crate::cursor::Cursor;
+use crate::kind::{TermKind, VolumeKind};
 use faults::TermFault;
 use rules::Term;
 
-/// Whether a term in such a volume may be of this kind.
-fn is_allowed(kind: VolumeKind, tag: u8) -> bool
-    ensures { result ≡ allowed? kind tag }
-{
-    match kind {
-        VolumeKind::Rules => tag == 0 || tag == 1,
-        VolumeKind::Facts => tag == 0 || tag == 2,
-    }
-}
-
-/// A term that is no constant, whose kind stands at `p`.
-fn other_term(kind: VolumeKind, p: usize, number: u16) -> Result<Term, TermFault>
-    requires { p + 1 ≤ 18446744073709551615 }
-    ensures { result ≡ other_term kind p number }
-{
-    match kind {
-        VolumeKind::Rules => {
-            if number <= 11 {
-                Ok(Term::Variable(number))
-            } else {
-                Err(TermFault::Number { place: p + 1 })
-            }
+impl<'a> Cursor<'a> {
+    /// The next term.
+    pub(crate) fn term(&mut self, kind: VolumeKind) -> Result<Term, TermFault>
+        ensures value { result ≡ read_term kind self.old.bytes.now self.old.end self.old.place }
+        ensures moved { OnOk result (Past self.old 3 self.new) }
+    {
+        let place = self.place;
+        let Some(term) = kind.term_kind(self.byte()?) else {
+            return Err(TermFault::Kind { place });
+        };
+        let number = self.pair()?;
+        match term {
+            TermKind::Constant => Ok(Term::Constant(number)),
+            TermKind::Variable if number > 11 => Err(TermFault::Number { place: place + 1 }),
+            TermKind::Variable => Ok(Term::Variable(number)),
+            TermKind::Null => Ok(Term::Null(number)),
         }
-        VolumeKind::Facts => Ok(Term::Null(number)),
-    }
-}
-
-/// The term at a place in a part that ends at `end`.
-pub(crate) fn read_term(
-    kind: VolumeKind,
-    bytes: &[u8],
-    end: usize,
-    p: usize,
-) -> Result<Term, TermFault>
-    requires { (p ≤ end) × (end ≤ length bytes.now) }
-    ensures value { result ≡ read_term kind bytes.now end p }
-    ensures within { OnOk result (p + 3 ≤ end) }
-{
-    let tag = read_byte(bytes, end, p)?;
-    if !is_allowed(kind, tag) {
-        return Err(TermFault::Kind { place: p });
-    }
-    let number = read_pair(bytes, end, p + 1)?;
-    if tag == 0 {
-        Ok(Term::Constant(number))
-    } else {
-        other_term(kind, p, number)
     }
 }

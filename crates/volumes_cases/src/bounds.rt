@@ -1,9 +1,9 @@
 //! The largest and the smallest that is accepted, and the next after it, which is declined.
 use crate::build::{SMALL_FACT, SMALL_RULE, fact_volume, rule_volume, three_facts, two_rules};
-use crate::expect::Kind::{Facts, Rules};
 use crate::expect::{expect_count, expect_fault, expect_lines};
 use crate::rule_faults::TIGHT_RULE;
 use std::test::Fail;
+use volumes::{Facts, Rules};
 
 /// Changes to two rules that leave them accepted: the smallest and largest numbers of rules, predicates, constants
 /// and variables, and numbers that rise by one.
@@ -30,39 +30,39 @@ const FACTS: &str = "
 #[test]
 fn rules(rt: HostRuntime) -> Result<(), Fail> {
     let bytes = two_rules(rt.alloc())?;
-    expect_lines(&rt, rt.alloc(), Rules, bytes.as_slice(), RULES)
+    expect_lines::<Rules>(&rt, rt.alloc(), bytes.as_slice(), RULES)
 }
 
 #[test]
 fn facts(rt: HostRuntime) -> Result<(), Fail> {
     let bytes = three_facts(rt.alloc())?;
-    expect_lines(&rt, rt.alloc(), Facts, bytes.as_slice(), FACTS)
+    expect_lines::<Facts>(&rt, rt.alloc(), bytes.as_slice(), FACTS)
 }
 
 #[test]
 fn none(rt: HostRuntime) -> Result<(), Fail> {
-    expect_count(&rt, Rules, b"\x01\x00\x00", 0)?;
-    expect_count(&rt, Facts, b"\x02\x00\x00", 0)
+    expect_count::<Rules>(&rt, b"\x01\x00\x00", 0)?;
+    expect_count::<Facts>(&rt, b"\x02\x00\x00", 0)
 }
 
 #[test]
 fn most_rules(rt: HostRuntime) -> Result<(), Fail> {
     for n in 1..65 {
         let bytes = rule_volume(rt.alloc(), n, &SMALL_RULE)?;
-        expect_count(&rt, Rules, bytes.as_slice(), n)?;
+        expect_count::<Rules>(&rt, bytes.as_slice(), n)?;
     }
     let bytes = rule_volume(rt.alloc(), 65, &SMALL_RULE)?;
-    expect_fault(&rt, Rules, bytes.as_slice(), (3, 1, 0, 1))
+    expect_fault::<Rules>(&rt, bytes.as_slice(), (3, 1, 0, 1))
 }
 
 #[test]
 fn most_facts(rt: HostRuntime) -> Result<(), Fail> {
     for n in [1, 2, 255, 256, 257, 2047, 2048] {
         let bytes = fact_volume(rt.alloc(), n, &SMALL_FACT)?;
-        expect_count(&rt, Facts, bytes.as_slice(), n)?;
+        expect_count::<Facts>(&rt, bytes.as_slice(), n)?;
     }
     let bytes = fact_volume(rt.alloc(), 2049, &SMALL_FACT)?;
-    expect_fault(&rt, Facts, bytes.as_slice(), (3, 1, 0, 1))
+    expect_fault::<Facts>(&rt, bytes.as_slice(), (3, 1, 0, 1))
 }
 
 /// Facts of four terms.
@@ -73,7 +73,7 @@ fn longest_facts(rt: HostRuntime) -> Result<(), Fail> {
         2048,
         b"\x00\x01\x04\x00\x00\x00\x02\x00\x00\x00\xff\xff\x02\xff\xff",
     )?;
-    expect_count(&rt, Facts, bytes.as_slice(), 2048)
+    expect_count::<Facts>(&rt, bytes.as_slice(), 2048)
 }
 
 /// Changes to the rule p1(x0) -> p2(x0,z1,z2,z3), p3(z4) that leave it four new variables or fewer.
@@ -94,6 +94,6 @@ const MANY_EXISTENTIALS: &str = "
 #[test]
 fn most_existentials(rt: HostRuntime) -> Result<(), Fail> {
     let bytes = rule_volume(rt.alloc(), 1, &TIGHT_RULE)?;
-    expect_lines(&rt, rt.alloc(), Rules, bytes.as_slice(), FEW_EXISTENTIALS)?;
-    expect_lines(&rt, rt.alloc(), Rules, bytes.as_slice(), MANY_EXISTENTIALS)
+    expect_lines::<Rules>(&rt, rt.alloc(), bytes.as_slice(), FEW_EXISTENTIALS)?;
+    expect_lines::<Rules>(&rt, rt.alloc(), bytes.as_slice(), MANY_EXISTENTIALS)
 }

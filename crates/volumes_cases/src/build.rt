@@ -76,16 +76,13 @@ pub fn changed(heap: Global, bytes: &[u8], changes: &str) -> Result<Vec<u8>, Fai
 }
 
 pub fn set_byte(bytes: &mut Vec<u8>, place: usize, value: u8) -> Result<(), Fail> {
-    match bytes.get_mut(place) {
-        Some(byte) => *byte = value,
-        None => return Err(Fail::new("a change past the end")),
-    }
+    *bytes.get_mut(place).ok_or("a change past the end")? = value;
     Ok(())
 }
 
 /// The first `n` of the bytes, or all of them.
 pub fn beginning(bytes: &[u8], n: usize) -> &[u8] {
-    if n < bytes.len() { &bytes[0..n] } else { bytes }
+    bytes.get(..n).unwrap_or(bytes)
 }
 
 fn push_pair(bytes: &mut Vec<u8>, n: usize) -> Result<(), Fail> {

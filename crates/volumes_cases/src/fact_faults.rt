@@ -1,8 +1,8 @@
 //! Each refusal of a fact volume, in each layer and at each index and place that it can have.
 use crate::build::{SMALL_FACT, beginning, fact_volume, three_facts};
-use crate::expect::Kind::Facts;
 use crate::expect::{Expected, expect_fault, expect_lines};
 use std::test::Fail;
+use volumes::Facts;
 
 const CONTENTS: &str = "
     0=0: 2 1 0 0
@@ -65,20 +65,15 @@ const LAST_FACT: &str = "
 #[test]
 fn changed_bytes(rt: HostRuntime) -> Result<(), Fail> {
     let bytes = three_facts(rt.alloc())?;
-    expect_lines(&rt, rt.alloc(), Facts, bytes.as_slice(), CONTENTS)?;
-    expect_lines(&rt, rt.alloc(), Facts, bytes.as_slice(), ATOMS)
+    expect_lines::<Facts>(&rt, rt.alloc(), bytes.as_slice(), CONTENTS)?;
+    expect_lines::<Facts>(&rt, rt.alloc(), bytes.as_slice(), ATOMS)
 }
 
 #[test]
 fn last_of_2048(rt: HostRuntime) -> Result<(), Fail> {
     let bytes = fact_volume(rt.alloc(), 2048, &SMALL_FACT)?;
-    expect_lines(&rt, rt.alloc(), Facts, bytes.as_slice(), LAST_FACT)?;
-    expect_fault(
-        &rt,
-        Facts,
-        beginning(bytes.as_slice(), 16386),
-        (7, 3, 2047, 16386),
-    )
+    expect_lines::<Facts>(&rt, rt.alloc(), bytes.as_slice(), LAST_FACT)?;
+    expect_fault::<Facts>(&rt, beginning(bytes.as_slice(), 16386), (7, 3, 2047, 16386))
 }
 
 /// Cut in its head or its contents, a volume is short. Cut at a fact's first byte or inside it, that fact is cut.
@@ -95,7 +90,7 @@ fn fault_of_cut(n: usize) -> Expected {
 fn cut_volume(rt: HostRuntime) -> Result<(), Fail> {
     let bytes = three_facts(rt.alloc())?;
     for n in 0..36 {
-        expect_fault(&rt, Facts, beginning(bytes.as_slice(), n), fault_of_cut(n))?;
+        expect_fault::<Facts>(&rt, beginning(bytes.as_slice(), n), fault_of_cut(n))?;
     }
     Ok(())
 }
@@ -105,7 +100,7 @@ fn bytes_after_the_facts(rt: HostRuntime) -> Result<(), Fail> {
     let mut bytes = three_facts(rt.alloc())?;
     for _ in 0..3 {
         bytes.push(2)?;
-        expect_fault(&rt, Facts, bytes.as_slice(), (5, 1, 0, 36))?;
+        expect_fault::<Facts>(&rt, bytes.as_slice(), (5, 1, 0, 36))?;
     }
-    expect_fault(&rt, Facts, b"\x02\x00\x00\x00", (5, 1, 0, 3))
+    expect_fault::<Facts>(&rt, b"\x02\x00\x00\x00", (5, 1, 0, 3))
 }

@@ -1,22 +1,25 @@
 //! Which of two faults comes first.
 use crate::build::{rule_volume, three_facts, two_rules};
-use crate::expect::Kind::{Facts, Rules};
-use crate::expect::{Expected, Kind, expect_fault, expect_lines};
+use crate::expect::{Expected, expect_fault, expect_lines};
 use crate::rule_faults::TIGHT_RULE;
 use std::test::Fail;
+use volumes::{Facts, Rules};
 
 /// A head that is cut comes before a wrong first byte, that before the count, and that before contents that are cut.
-const HEADS: [(Kind, &[u8], Expected); 10] = [
-    (Rules, b"", (1, 1, 0, 0)),
-    (Rules, b"\x02", (1, 1, 0, 1)),
-    (Rules, b"\x02\xff", (1, 1, 0, 2)),
-    (Rules, b"\x02\xff\xff", (2, 1, 0, 0)),
-    (Rules, b"\x01\x00\x41", (3, 1, 0, 1)),
-    (Facts, b"", (1, 1, 0, 0)),
-    (Facts, b"\x01", (1, 1, 0, 1)),
-    (Facts, b"\x01\xff", (1, 1, 0, 2)),
-    (Facts, b"\x01\xff\xff", (2, 1, 0, 0)),
-    (Facts, b"\x02\x08\x01", (3, 1, 0, 1)),
+const RULE_HEADS: [(&[u8], Expected); 5] = [
+    (b"", (1, 1, 0, 0)),
+    (b"\x02", (1, 1, 0, 1)),
+    (b"\x02\xff", (1, 1, 0, 2)),
+    (b"\x02\xff\xff", (2, 1, 0, 0)),
+    (b"\x01\x00\x41", (3, 1, 0, 1)),
+];
+
+const FACT_HEADS: [(&[u8], Expected); 5] = [
+    (b"", (1, 1, 0, 0)),
+    (b"\x01", (1, 1, 0, 1)),
+    (b"\x01\xff", (1, 1, 0, 2)),
+    (b"\x01\xff\xff", (2, 1, 0, 0)),
+    (b"\x02\x08\x01", (3, 1, 0, 1)),
 ];
 
 const RULES: &str = "
@@ -90,8 +93,11 @@ const FACTS: &str = "
 
 #[test]
 fn heads(rt: HostRuntime) -> Result<(), Fail> {
-    for (kind, bytes, expected) in HEADS {
-        expect_fault(&rt, kind, bytes, expected)?;
+    for (bytes, expected) in RULE_HEADS {
+        expect_fault::<Rules>(&rt, bytes, expected)?;
+    }
+    for (bytes, expected) in FACT_HEADS {
+        expect_fault::<Facts>(&rt, bytes, expected)?;
     }
     Ok(())
 }
@@ -99,20 +105,20 @@ fn heads(rt: HostRuntime) -> Result<(), Fail> {
 #[test]
 fn in_rule_volumes(rt: HostRuntime) -> Result<(), Fail> {
     let bytes = two_rules(rt.alloc())?;
-    expect_lines(&rt, rt.alloc(), Rules, bytes.as_slice(), RULES)?;
-    expect_lines(&rt, rt.alloc(), Rules, bytes.as_slice(), LAST_FIELDS)
+    expect_lines::<Rules>(&rt, rt.alloc(), bytes.as_slice(), RULES)?;
+    expect_lines::<Rules>(&rt, rt.alloc(), bytes.as_slice(), LAST_FIELDS)
 }
 
 #[test]
 fn existentials_last(rt: HostRuntime) -> Result<(), Fail> {
     let bytes = rule_volume(rt.alloc(), 2, &TIGHT_RULE)?;
-    expect_lines(&rt, rt.alloc(), Rules, bytes.as_slice(), EXISTENTIALS)
+    expect_lines::<Rules>(&rt, rt.alloc(), bytes.as_slice(), EXISTENTIALS)
 }
 
 #[test]
 fn in_fact_volumes(rt: HostRuntime) -> Result<(), Fail> {
     let bytes = three_facts(rt.alloc())?;
-    expect_lines(&rt, rt.alloc(), Facts, bytes.as_slice(), FACTS)
+    expect_lines::<Facts>(&rt, rt.alloc(), bytes.as_slice(), FACTS)
 }
 
 /// A fault of the last fact comes before the byte after it.
@@ -125,5 +131,5 @@ const LONGER_FACTS: &str = "
 fn end_of_facts_last(rt: HostRuntime) -> Result<(), Fail> {
     let mut bytes = three_facts(rt.alloc())?;
     bytes.push(0)?;
-    expect_lines(&rt, rt.alloc(), Facts, bytes.as_slice(), LONGER_FACTS)
+    expect_lines::<Facts>(&rt, rt.alloc(), bytes.as_slice(), LONGER_FACTS)
 }

@@ -1,8 +1,8 @@
 //! Each refusal of a rule volume, in each layer and at each index and place that it can have.
 use crate::build::{SMALL_RULE, beginning, rule_volume, set_byte, two_rules};
-use crate::expect::Kind::Rules;
 use crate::expect::{Expected, expect_fault, expect_lines};
 use std::test::Fail;
+use volumes::Rules;
 
 const CONTENTS: &str = "
     0=0: 2 1 0 0
@@ -134,23 +134,23 @@ pub const TIGHT_RULE: [u8; 29] =
 #[test]
 fn changed_bytes(rt: HostRuntime) -> Result<(), Fail> {
     let bytes = two_rules(rt.alloc())?;
-    expect_lines(&rt, rt.alloc(), Rules, bytes.as_slice(), CONTENTS)?;
-    expect_lines(&rt, rt.alloc(), Rules, bytes.as_slice(), COUNTS)?;
-    expect_lines(&rt, rt.alloc(), Rules, bytes.as_slice(), ARITIES)?;
-    expect_lines(&rt, rt.alloc(), Rules, bytes.as_slice(), KINDS)?;
-    expect_lines(&rt, rt.alloc(), Rules, bytes.as_slice(), VARIABLES)
+    expect_lines::<Rules>(&rt, rt.alloc(), bytes.as_slice(), CONTENTS)?;
+    expect_lines::<Rules>(&rt, rt.alloc(), bytes.as_slice(), COUNTS)?;
+    expect_lines::<Rules>(&rt, rt.alloc(), bytes.as_slice(), ARITIES)?;
+    expect_lines::<Rules>(&rt, rt.alloc(), bytes.as_slice(), KINDS)?;
+    expect_lines::<Rules>(&rt, rt.alloc(), bytes.as_slice(), VARIABLES)
 }
 
 #[test]
 fn last_of_64(rt: HostRuntime) -> Result<(), Fail> {
     let bytes = rule_volume(rt.alloc(), 64, &SMALL_RULE)?;
-    expect_lines(&rt, rt.alloc(), Rules, bytes.as_slice(), LAST_RULE)
+    expect_lines::<Rules>(&rt, rt.alloc(), bytes.as_slice(), LAST_RULE)
 }
 
 #[test]
 fn existentials(rt: HostRuntime) -> Result<(), Fail> {
     let bytes = rule_volume(rt.alloc(), 2, &TIGHT_RULE)?;
-    expect_lines(&rt, rt.alloc(), Rules, bytes.as_slice(), EXISTENTIALS)
+    expect_lines::<Rules>(&rt, rt.alloc(), bytes.as_slice(), EXISTENTIALS)
 }
 
 /// Cut in its head or its contents, a volume is short. Cut after them, it does not end where they say.
@@ -162,7 +162,7 @@ fn fault_of_cut(n: usize) -> Expected {
 fn cut_volume(rt: HostRuntime) -> Result<(), Fail> {
     let bytes = two_rules(rt.alloc())?;
     for n in 0..63 {
-        expect_fault(&rt, Rules, beginning(bytes.as_slice(), n), fault_of_cut(n))?;
+        expect_fault::<Rules>(&rt, beginning(bytes.as_slice(), n), fault_of_cut(n))?;
     }
     Ok(())
 }
@@ -172,9 +172,9 @@ fn bytes_after_the_rules(rt: HostRuntime) -> Result<(), Fail> {
     let mut bytes = two_rules(rt.alloc())?;
     for _ in 0..3 {
         bytes.push(1)?;
-        expect_fault(&rt, Rules, bytes.as_slice(), (5, 1, 0, 63))?;
+        expect_fault::<Rules>(&rt, bytes.as_slice(), (5, 1, 0, 63))?;
     }
-    expect_fault(&rt, Rules, b"\x01\x00\x00\x00", (5, 1, 0, 3))
+    expect_fault::<Rules>(&rt, b"\x01\x00\x00\x00", (5, 1, 0, 3))
 }
 
 /// Each of 64 rules has the largest length, and nothing stands after the contents.
@@ -184,7 +184,7 @@ fn largest_end(rt: HostRuntime) -> Result<(), Fail> {
     for i in 0..64 {
         bytes.extend_from_slice(&[0, i, 255, 255])?;
     }
-    expect_fault(&rt, Rules, bytes.as_slice(), (5, 1, 0, 4194499))
+    expect_fault::<Rules>(&rt, bytes.as_slice(), (5, 1, 0, 4194499))
 }
 
 /// The first rule's stated length is too small, by one up to all of its bytes, and the second's larger by as many.
@@ -195,7 +195,7 @@ fn first_rule_cut(rt: HostRuntime) -> Result<(), Fail> {
         let mut copy = bytes.clone()?;
         set_byte(&mut copy, 6, n)?;
         set_byte(&mut copy, 10, 52 - n)?;
-        expect_fault(&rt, Rules, copy.as_slice(), (7, 3, 0, 11 + n as usize))?;
+        expect_fault::<Rules>(&rt, copy.as_slice(), (7, 3, 0, 11 + n as usize))?;
     }
     Ok(())
 }
@@ -208,7 +208,7 @@ fn first_rule_left_over(rt: HostRuntime) -> Result<(), Fail> {
         let mut copy = bytes.clone()?;
         set_byte(&mut copy, 6, n)?;
         set_byte(&mut copy, 10, 52 - n)?;
-        expect_fault(&rt, Rules, copy.as_slice(), (7, 3, 0, 40))?;
+        expect_fault::<Rules>(&rt, copy.as_slice(), (7, 3, 0, 40))?;
     }
     Ok(())
 }
@@ -220,7 +220,7 @@ fn last_rule_cut(rt: HostRuntime) -> Result<(), Fail> {
         let mut copy = bytes.clone()?;
         set_byte(&mut copy, 10, n)?;
         let end = 40 + n as usize;
-        expect_fault(&rt, Rules, beginning(copy.as_slice(), end), (7, 3, 1, end))?;
+        expect_fault::<Rules>(&rt, beginning(copy.as_slice(), end), (7, 3, 1, end))?;
     }
     Ok(())
 }
@@ -230,5 +230,5 @@ fn last_rule_left_over(rt: HostRuntime) -> Result<(), Fail> {
     let mut bytes = two_rules(rt.alloc())?;
     set_byte(&mut bytes, 10, 24)?;
     bytes.push(1)?;
-    expect_fault(&rt, Rules, bytes.as_slice(), (7, 3, 1, 63))
+    expect_fault::<Rules>(&rt, bytes.as_slice(), (7, 3, 1, 63))
 }

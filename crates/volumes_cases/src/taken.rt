@@ -3,7 +3,7 @@ use crate::build::{SMALL_RULE, changed, joined, rule_volume, three_facts, two_ru
 use std::alloc::{AllocError, Global};
 use std::process::Abort;
 use std::test::Fail;
-use volumes::{FactVolume, Item, Placed, RuleAtoms, RuleVolume};
+use volumes::{Entries, Facts, Item, Placed, RuleAtoms, RuleVolume, Rules, Volume};
 
 /// A rule of six body atoms and four head atoms, each of four terms, with four new variables.
 const WIDEST_RULE: [&[u8]; 11] = [
@@ -23,50 +23,28 @@ const WIDEST_RULE: [&[u8]; 11] = [
 const WIDEST_TEXT: &str =
     "0: p65535(x0,x1,x2,x3), p2(x4,x5,x6,x7), p3(x0,0,65535,x0), p4(x1,x2,x3,x4), p5(x5,x6,x7,x0), p256(256,2,3,4) -> p7(z8,z9,z10,z11), p8(x0,z8,x1,z9), p9(65535,z10,0,z11), p65535(z11,z10,z9,z8)";
 
-/// What is printed of the rule of an index after its number, or `none`.
-fn rule_text(heap: Global, volume: &RuleVolume<'_>, index: usize) -> Result<String, AllocError> {
-    match volume.rule(index) {
-        Some(entry) => {
-            let number = entry.number;
-            let rule = entry.rule;
-            format!(in heap; "{number}: {rule}")
-        }
+/// What is printed of the rule or fact of an index, or `none`.
+fn entry_text<E: Entries>(
+    heap: Global,
+    volume: &Volume<'_, E>,
+    index: usize,
+) -> Result<String, AllocError> {
+    match E::entry(volume, index) {
+        Some(entry) => format!(in heap; "{entry}"),
         None => String::from_str(heap, "none"),
     }
 }
 
-/// What is printed of the fact of an index, or `none`.
-fn fact_text(heap: Global, volume: &FactVolume<'_>, index: usize) -> Result<String, AllocError> {
-    match volume.fact(index) {
-        Some(fact) => format!(in heap; "{fact}"),
-        None => String::from_str(heap, "none"),
-    }
-}
-
-/// The rules of these indices are printed so.
-fn expect_rules(
+/// The rules or facts of these indices are printed so.
+fn expect_entries<E: Entries>(
     rt: &impl Abort,
     heap: Global,
     bytes: &[u8],
     cases: &[(usize, &str)],
 ) -> Result<(), Fail> {
-    let volume = RuleVolume::take_up(bytes);
+    let volume = Volume::<E>::take_up(bytes);
     for (index, text) in cases {
-        assert_eq!(rt; rule_text(heap, &volume, *index)?.as_str(), *text);
-    }
-    Ok(())
-}
-
-/// The facts of these indices are printed so.
-fn expect_facts(
-    rt: &impl Abort,
-    heap: Global,
-    bytes: &[u8],
-    cases: &[(usize, &str)],
-) -> Result<(), Fail> {
-    let volume = FactVolume::take_up(bytes);
-    for (index, text) in cases {
-        assert_eq!(rt; fact_text(heap, &volume, *index)?.as_str(), *text);
+        assert_eq!(rt; entry_text(heap, &volume, *index)?.as_str(), *text);
     }
     Ok(())
 }
@@ -98,22 +76,22 @@ const FACTS: [(usize, &str); 5] = [
 #[test]
 fn rules_of_volumes(rt: HostRuntime) -> Result<(), Fail> {
     let bytes = two_rules(rt.alloc())?;
-    expect_rules(&rt, rt.alloc(), bytes.as_slice(), &RULES)?;
+    expect_entries::<Rules>(&rt, rt.alloc(), bytes.as_slice(), &RULES)?;
     let copy = changed(rt.alloc(), bytes.as_slice(), CHANGES)?;
-    expect_rules(&rt, rt.alloc(), copy.as_slice(), &CHANGED_RULES)
+    expect_entries::<Rules>(&rt, rt.alloc(), copy.as_slice(), &CHANGED_RULES)
 }
 
 #[test]
 fn facts_of_volumes(rt: HostRuntime) -> Result<(), Fail> {
     let bytes = three_facts(rt.alloc())?;
-    expect_facts(&rt, rt.alloc(), bytes.as_slice(), &FACTS)
+    expect_entries::<Facts>(&rt, rt.alloc(), bytes.as_slice(), &FACTS)
 }
 
 #[test]
 fn widest_rule(rt: HostRuntime) -> Result<(), Fail> {
     let rule = joined(rt.alloc(), &WIDEST_RULE)?;
     let bytes = rule_volume(rt.alloc(), 1, rule.as_slice())?;
-    expect_rules(
+    expect_entries::<Rules>(
         &rt,
         rt.alloc(),
         bytes.as_slice(),
@@ -127,7 +105,7 @@ fn every_rule(rt: HostRuntime) -> Result<(), Fail> {
     let bytes = rule_volume(rt.alloc(), 64, &SMALL_RULE)?;
     for i in 0..64 {
         let text = format!(in rt.alloc(); "{i}: p1(x0) -> p2(x0)")?;
-        expect_rules(&rt, rt.alloc(), bytes.as_slice(), &[(i, text.as_str())])?;
+        expect_entries::<Rules>(&rt, rt.alloc(), bytes.as_slice(), &[(i, text.as_str())])?;
     }
     Ok(())
 }
@@ -137,26 +115,24 @@ fn every_rule(rt: HostRuntime) -> Result<(), Fail> {
 fn nothing(rt: HostRuntime) -> Result<(), Fail> {
     let bytes = two_rules(rt.alloc())?;
     let copy = changed(rt.alloc(), bytes.as_slice(), "62=12")?;
-    expect_rules(&rt, rt.alloc(), copy.as_slice(), &[(0, "none")])?;
+    expect_entries::<Rules>(&rt, rt.alloc(), copy.as_slice(), &[(0, "none")])?;
     let bytes = three_facts(rt.alloc())?;
     let copy = changed(rt.alloc(), bytes.as_slice(), "33=1")?;
-    expect_facts(&rt, rt.alloc(), copy.as_slice(), &[(0, "none")])
+    expect_entries::<Facts>(&rt, rt.alloc(), copy.as_slice(), &[(0, "none")])
 }
 
 /// What is printed of an atom that is handed out: its part of the rule, its text, and which bytes it has.
 fn placed_text(heap: Global, part: &str, placed: Placed<'_>) -> Result<String, AllocError> {
-    let atom = placed.atom;
-    let place = placed.place;
-    let len = placed.bytes.len();
-    let last = placed.bytes.last().copied().unwrap_or(0);
-    format!(in heap; "{part} {atom} at {place}, {len} bytes to {last}")
+    let Placed { atom, bytes, place } = placed;
+    let last = bytes.last().copied().unwrap_or(0);
+    format!(in heap; "{part} {atom} at {place}, {} bytes to {last}", bytes.len())
 }
 
 fn item_text(heap: Global, atoms: &mut RuleAtoms<'_>) -> Result<String, AllocError> {
     match atoms.next_item() {
-        Ok(Item::Body(placed)) => placed_text(heap, "body", placed),
-        Ok(Item::Head(placed)) => placed_text(heap, "head", placed),
-        Ok(Item::End) => String::from_str(heap, "end"),
+        Ok(Some(Item::Body(placed))) => placed_text(heap, "body", placed),
+        Ok(Some(Item::Head(placed))) => placed_text(heap, "head", placed),
+        Ok(None) => String::from_str(heap, "end"),
         Err(_) => String::from_str(heap, "fault"),
     }
 }

@@ -1,6 +1,8 @@
 //! Damages sample volumes byte by byte, and sees that the check and what is taken up agree on each.
 #![tactic(auto)]
 
+ghost use Rattle.std.specs.Prelude.{◌<◌, length};
+
 mod agreement;
 mod tally;
 
@@ -59,46 +61,39 @@ impl Outcome {
     }
 }
 
-/// Adds the volume as it is with each of its beginnings.
+/// Adds each beginning of the volume, the whole among them.
 fn add_beginnings(bytes: &[u8], outcome: &mut Outcome) {
-    for n in 0..bytes.len() {
-        outcome.add(&bytes[0..n]);
+    for n in 0..=bytes.len() {
+        outcome.add(&bytes[..n]);
     }
-    outcome.add(bytes);
 }
 
 /// Adds the volume with the byte at a place changed to another value.
-fn add_changed(bytes: &mut Vec<u8>, place: usize, value: u8, outcome: &mut Outcome) {
-    let Some(byte) = bytes.get(place).copied() else {
-        return;
-    };
-    if value == byte {
-        return;
-    }
-    set_byte(bytes, place, value);
-    outcome.add(bytes.as_slice());
-    set_byte(bytes, place, byte);
-}
-
-fn set_byte(bytes: &mut Vec<u8>, place: usize, value: u8) {
-    if let Some(byte) = bytes.get_mut(place) {
-        *byte = value;
+fn add_changed(bytes: &mut [u8], place: usize, value: u8, outcome: &mut Outcome)
+    requires { place < length bytes.old }
+{
+    let byte = bytes[place];
+    if value != byte {
+        bytes[place] = value;
+        outcome.add(bytes);
+        bytes[place] = byte;
     }
 }
 
 /// Adds the volume with the byte at a place changed to each of the values.
-fn add_changes(bytes: &mut Vec<u8>, place: usize, outcome: &mut Outcome) {
+fn add_changes(bytes: &mut [u8], place: usize, outcome: &mut Outcome)
+    requires { place < length bytes.old }
+{
+    let turned = bytes[place] ^ 1;
     for value in VALUES {
         add_changed(bytes, place, value, outcome);
     }
-    if let Some(byte) = bytes.get(place).copied() {
-        add_changed(bytes, place, byte ^ 1, outcome);
-    }
+    add_changed(bytes, place, turned, outcome);
 }
 
-fn damage(bytes: &mut Vec<u8>) -> Outcome {
+fn damage(bytes: &mut [u8]) -> Outcome {
     let mut outcome = Outcome::NONE;
-    add_beginnings(bytes.as_slice(), &mut outcome);
+    add_beginnings(bytes, &mut outcome);
     for place in 0..bytes.len() {
         add_changes(bytes, place, &mut outcome);
     }
@@ -109,12 +104,10 @@ fn main(rt: HostRuntime) -> io::Result<()> {
     let mut disagreements = 0u64;
     for name in SAMPLES {
         let mut bytes = fs::read(&rt, name)?;
-        let outcome = damage(&mut bytes);
+        let outcome = damage(bytes.as_mut_slice());
         disagreements = disagreements.wrapping_add(outcome.disagreements());
-        let rules = outcome.rules;
-        let facts = outcome.facts;
-        println!(rt; "{name} as rules: {rules}")?;
-        println!(rt; "{name} as facts: {facts}")?;
+        println!(rt; "{name} as rules: {}", outcome.rules)?;
+        println!(rt; "{name} as facts: {}", outcome.facts)?;
     }
     println!(rt; "disagreements {disagreements}")
 }

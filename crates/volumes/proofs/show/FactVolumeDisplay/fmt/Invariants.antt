@@ -1,8 +1,0 @@
-use Rattle.std.proofs.Common.{take}
-use Rattle.std.specs.Fmt.{IsPlainFormatter, HasWritten}
-use Rattle.volumes.specs.Volumes.{facts_of}
-use Rattle.volumes.specs.Text.{facts_text}
-use Rattle.volumes.proofs.show.FactVolumeDisplay.fmt.Given as goal
-
-abbrev pub invariant-loop-i : goal.invariant-loop-i
-invariant-loop-i g l = IsPlainFormatter l.initial.f → HasWritten g.W.Write.write_str_gives l.initial.f (facts_text (take l.i (facts_of l.self))) l.f
