@@ -1,8 +1,6 @@
 //! Damages sample volumes byte by byte, and sees that the check and what is taken up agree on each.
 #![tactic(auto)]
 
-ghost use Rattle.std.specs.Prelude.{◌<◌, length};
-
 mod agreement;
 mod tally;
 
@@ -69,10 +67,10 @@ fn add_beginnings(bytes: &[u8], outcome: &mut Outcome) {
 }
 
 /// Adds the volume with the byte at a place changed to another value.
-fn add_changed(bytes: &mut [u8], place: usize, value: u8, outcome: &mut Outcome)
-    requires { place < length bytes.old }
-{
-    let byte = bytes[place];
+fn add_changed(bytes: &mut [u8], place: usize, value: u8, outcome: &mut Outcome) {
+    let Some(byte) = bytes.get(place).copied() else {
+        return;
+    };
     if value != byte {
         bytes[place] = value;
         outcome.add(bytes);
@@ -81,14 +79,13 @@ fn add_changed(bytes: &mut [u8], place: usize, value: u8, outcome: &mut Outcome)
 }
 
 /// Adds the volume with the byte at a place changed to each of the values.
-fn add_changes(bytes: &mut [u8], place: usize, outcome: &mut Outcome)
-    requires { place < length bytes.old }
-{
-    let turned = bytes[place] ^ 1;
+fn add_changes(bytes: &mut [u8], place: usize, outcome: &mut Outcome) {
     for value in VALUES {
         add_changed(bytes, place, value, outcome);
     }
-    add_changed(bytes, place, turned, outcome);
+    if let Some(byte) = bytes.get(place).copied() {
+        add_changed(bytes, place, byte ^ 1, outcome);
+    }
 }
 
 fn damage(bytes: &mut [u8]) -> Outcome {
