@@ -1,10 +1,12 @@
 // Short lists of atoms in arrays.
 ghost use Rattle.std.specs.Prelude.{◌≡◌, ◌+◌, ◌≤◌, ◌++◌, map, length, take};
+ghost use Rattle.arrayvec.specs.ArrayVec.{array_vec_len};
 ghost use Rattle.rules.specs.Logic.{formula_of};
 ghost use Rattle.rules.specs.Bounds.{some};
 ghost use Rattle.matches.specs.Lists.{look, formulas, under_atom};
 ghost use Rattle.reliances.specs.Unification.{of?, shares?};
 
+use arrayvec::ArrayVec;
 use matches::atom_under;
 use rules::{Atom, Term};
 
@@ -26,6 +28,27 @@ pub(crate) fn put_under(atoms: &[Atom], h: &[Term], into: &mut [Atom], at: usize
     for i in 0..atoms.len() {
         into[at + i] = atom_under(&atoms[i], h);
     }
+}
+
+/// Adds the atoms, with their variables as `h` says.
+pub(crate) fn push_under<const N: usize>(atoms: &[Atom], h: &[Term], into: &mut ArrayVec<Atom, N>)
+    requires { array_vec_len into.old + length atoms.now ≤ N }
+    ensures { into.new.items ≡ into.old.items ++ map (under_atom (look h.now)) atoms.now }
+{
+    for a in atoms {
+        into.push(atom_under(a, h));
+    }
+}
+
+/// Adds the atoms, with their variables as `h` says.
+pub(crate) fn gather<const N: usize>(a: &[Atom], b: &[Atom], h: &[Term]) -> ArrayVec<Atom, N>
+    requires { length a.now + length b.now ≤ N }
+    ensures { result.items ≡ map (under_atom (look h.now)) a.now ++ map (under_atom (look h.now)) b.now }
+{
+    let mut all = ArrayVec::new();
+    push_under(a, h, &mut all);
+    push_under(b, h, &mut all);
+    all
 }
 
 /// The first `n` of the facts on a sheet's first list, or all of them.
