@@ -1,6 +1,7 @@
 // Short lists of atoms in arrays.
 ghost use Rattle.std.specs.Prelude.{◌≡◌, ◌+◌, ◌≤◌, ◌++◌, map, length, take};
 ghost use Rattle.arrayvec.specs.ArrayVec.{array_vec_len};
+ghost use Rattle.rules.specs.declared.Atom.{Atom};
 ghost use Rattle.rules.specs.Logic.{formula_of};
 ghost use Rattle.rules.specs.Bounds.{some};
 ghost use Rattle.matches.specs.Lists.{look, formulas, under_atom};
@@ -30,25 +31,46 @@ pub(crate) fn put_under(atoms: &[Atom], h: &[Term], into: &mut [Atom], at: usize
     }
 }
 
-/// Adds the atoms, with their variables as `h` says.
-pub(crate) fn push_under<const N: usize>(atoms: &[Atom], h: &[Term], into: &mut ArrayVec<Atom, N>)
-    requires { array_vec_len into.old + length atoms.now ≤ N }
-    ensures { into.new.items ≡ into.old.items ++ map (under_atom (look h.now)) atoms.now }
-{
-    for a in atoms {
-        into.push(atom_under(a, h));
+/// A way to read atoms, and what it makes of each.
+pub(crate) trait Reading {
+    ghost gives: { Self → Atom → Atom };
+
+    fn read(&self, a: &Atom) -> Atom
+        ensures { result ≡ gives self.now a.now };
+}
+
+/// Atoms are read with their variables as the values say.
+#[derive(Clone, Copy)]
+pub(crate) struct Under<'a>(pub &'a [Term]);
+
+impl Reading for Under<'_> {
+    ghost gives = { λ r a. under_atom (look r.0.now) a };
+
+    fn read(&self, a: &Atom) -> Atom {
+        atom_under(a, self.0)
     }
 }
 
-/// Adds the atoms, with their variables as `h` says.
-pub(crate) fn gather<const N: usize>(a: &[Atom], b: &[Atom], h: &[Term]) -> ArrayVec<Atom, N>
-    requires { length a.now + length b.now ≤ N }
-    ensures { result.items ≡ map (under_atom (look h.now)) a.now ++ map (under_atom (look h.now)) b.now }
+/// Adds what the reading makes of each atom.
+pub(crate) fn push_each<const N: usize, R: Reading>(
+    atoms: &[Atom],
+    reading: &R,
+    into: &mut ArrayVec<Atom, N>,
+)
+    requires { array_vec_len into.old + length atoms.now ≤ N }
+    ensures { into.new.items ≡ into.old.items ++ map (R.gives reading.now) atoms.now }
 {
-    let mut all = ArrayVec::new();
-    push_under(a, h, &mut all);
-    push_under(b, h, &mut all);
-    all
+    for a in atoms {
+        into.push(reading.read(a));
+    }
+}
+
+/// Adds the atoms.
+pub(crate) fn push_all<const N: usize>(atoms: &[Atom], into: &mut ArrayVec<Atom, N>)
+    requires { array_vec_len into.old + length atoms.now ≤ N }
+    ensures { into.new.items ≡ into.old.items ++ atoms.now }
+{
+    let _ = into.try_extend_from_slice(atoms);
 }
 
 /// The first `n` of the facts on a sheet's first list, or all of them.
