@@ -1,7 +1,7 @@
 use rules::{Atom, Term};
 
 /// Which relation is asked about.
-#[derive(Clone, Copy)]
+#[derive(Clone, Copy, PartialEq, Eq)]
 pub enum Kind {
     /// The second rule positively relies on the first.
     Positive,
