@@ -1,7 +1,7 @@
 -- Symbolic matches of two rules: substitutions by slot, how atoms are unified, and the facts that a substitution stands for.
 -- The variable v of A is slot v, that of B slot 12 + v, and the alternative's value of B's existential variable v is slot 24 + v.
 -- A slot holds a constant, or the null of some slot.
-use Rattle.std.specs.Prelude.{◌≡◌, ℕ, zero, suc, ◌+◌, ◌-◌, Bool, true, false, cond, not, List, [], ◌∷◌, ◌++◌, map, take, drop, ◌==◌, nat_lt, slice_index_or}
+use Rattle.std.specs.Prelude.{◌≡◌, ℕ, zero, suc, ◌+◌, ◌-◌, Bool, true, false, cond, not, List, [], ◌∷◌, ◌++◌, map, take, drop, Option, Some, None, ◌==◌, nat_lt, slice_index_or}
 use Rattle.rules.specs.declared.Term.{Term}
 use Rattle.rules.specs.declared.Term.TheVariants.{Constant, Variable, Null}
 use Rattle.rules.specs.Logic.{Formula, Implication}
@@ -63,6 +63,11 @@ unify_formulas rigid m n a b σ =
 abbrev pub Gave : List Subst → Bool → Subst → Type 0
 Gave l true σ = l ≡ σ ∷ []
 Gave l false σ = l ≡ []
+
+-- the same of an `Option` of nothing
+abbrev pub Unified : List Subst → Option (Unit {0}) → Subst → Type 0
+Unified l (Some u) σ = l ≡ σ ∷ []
+Unified l None σ = l ≡ []
 
 -- a list of flags as a test
 abbrev pub flags : List Bool → ℕ → Bool
