@@ -8,10 +8,10 @@ ghost use Rattle.reliances.specs.Unification.{flags, part};
 ghost use Rattle.reliances.specs.PositiveSearch.{Open, IsFound};
 ghost use Rattle.reliances.specs.Searching.{OnWay, Shut, Searched};
 
-use crate::Sheet;
 use crate::lists::{Under, push_each};
 use crate::search::{Question, Relation, Steps, Way, listed};
 use crate::substitution::{copy_slots, first_slots, has_rigid, second_slots};
+use crate::{Kind, Sheet};
 use arrayvec::ArrayVec;
 use matches::{is_match, is_satisfied, sized};
 use rules::{Atom, Term};
@@ -20,7 +20,9 @@ use rules::{Atom, Term};
 pub(crate) struct Relies;
 
 impl Relation for Relies {
-    ghost kind = { Positive };
+    const KIND: Kind = Kind::Positive;
+
+    ghost KIND = { Positive };
 }
 
 impl Steps for Relies {

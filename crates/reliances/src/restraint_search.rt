@@ -8,11 +8,11 @@ ghost use Rattle.reliances.specs.declared.sheet.Kind.TheVariants.{Restraint};
 ghost use Rattle.reliances.specs.RestraintSearch.{shift_by, shift_atom, laid_later, SomeSpared, EarlyFound, IsChoice, OtherIs, Open, IsFound};
 ghost use Rattle.reliances.specs.Searching.{OnWay, Shut, Searched};
 
-use crate::Sheet;
 use crate::lists::{Reading, Under, push_each};
 use crate::search::{Question, Relation, Steps, Way, listed};
 use crate::substitution::{copy_slots, first_slots, has_rigid, second_slots, wide_slots};
 use crate::unifier::{is_flexible, replace, slot_value};
+use crate::{Kind, Sheet};
 use arrayvec::ArrayVec;
 use matches::{atom_under, find_alternative, is_satisfied, sized, stands_in};
 use rules::{Atom, Rule, Term};
@@ -22,7 +22,9 @@ use std::array;
 pub(crate) struct Restrains;
 
 impl Relation for Restrains {
-    ghost kind = { Restraint };
+    const KIND: Kind = Kind::Restraint;
+
+    ghost KIND = { Restraint };
 }
 
 impl Steps for Restrains {

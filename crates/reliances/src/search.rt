@@ -6,16 +6,19 @@ ghost use Rattle.reliances.specs.declared.sheet.Kind.{Kind};
 ghost use Rattle.reliances.specs.Unification.{FlagsAre};
 ghost use Rattle.reliances.specs.Searching.{rigid_for, OnWay, Shut, Searched};
 
-use crate::Sheet;
 use crate::lists::push_all;
+use crate::substitution::rigid_slots;
 use crate::unifier::unify;
+use crate::{Kind, Sheet};
 use arrayvec::ArrayVec;
 use rules::{Atom, Rule, Term};
 use std::marker::PhantomData;
 
 /// A relation between two rules.
 pub(crate) trait Relation {
-    ghost kind: { Kind };
+    const KIND: Kind;
+
+    ghost KIND: { Kind };
 }
 
 /// Whether the relation holds between two rules, with the slots that keep their nulls while that is searched.
@@ -23,8 +26,21 @@ pub(crate) struct Question<'a, R: Relation> {
     pub first: &'a Rule,
     pub second: &'a Rule,
     pub rigid: [bool; 36],
-    pub of: PhantomData<R>,
-    ghost flags: { FlagsAre rigid (rigid_for R.kind (meaning first.now) (meaning second.now)) },
+    of: PhantomData<R>,
+    ghost flags: { FlagsAre rigid (rigid_for R.KIND (meaning first.now) (meaning second.now)) },
+}
+
+impl<'a, R: Relation> Question<'a, R> {
+    pub(crate) fn new(first: &'a Rule, second: &'a Rule) -> Self
+        ensures { (result.first.now ≡ first.now) × (result.second.now ≡ second.now) }
+    {
+        Question {
+            first,
+            second,
+            rigid: rigid_slots(R::KIND, first, second),
+            of: PhantomData,
+        }
+    }
 }
 
 /// A way into a search: what the slots hold, the atoms that were left old, and those that remain.
@@ -40,19 +56,19 @@ pub(crate) struct Way<'a> {
 pub(crate) trait Steps: Relation {
     /// Whether no facts and matches that show the relation can follow the way.
     fn is_shut(asked: &Question<Self>, way: &Way) -> bool
-        requires { let q = asked.now in OnWay Self.kind q.first.now q.second.now q.rigid way.now.sigma.now way.now.old.now way.now.rest.now }
-        ensures { let q = asked.now in Shut result Self.kind q.first.now q.second.now q.rigid way.now.sigma.now way.now.old.now };
+        requires { let q = asked.now in OnWay Self.KIND q.first.now q.second.now q.rigid way.now.sigma.now way.now.old.now way.now.rest.now }
+        ensures { let q = asked.now in Shut result Self.KIND q.first.now q.second.now q.rigid way.now.sigma.now way.now.old.now };
 
     /// The end of a way, where no atom remains.
     fn finish(asked: &Question<Self>, way: &Way) -> Option<Sheet>
-        requires { let q = asked.now in OnWay Self.kind q.first.now q.second.now q.rigid way.now.sigma.now way.now.old.now [] }
-        ensures { let q = asked.now in Searched result Self.kind q.first.now q.second.now q.rigid way.now.sigma.now way.now.old.now };
+        requires { let q = asked.now in OnWay Self.KIND q.first.now q.second.now q.rigid way.now.sigma.now way.now.old.now [] }
+        ensures { let q = asked.now in Searched result Self.KIND q.first.now q.second.now q.rigid way.now.sigma.now way.now.old.now };
 }
 
 /// Goes on from the node that a way leads to.
 pub(crate) fn search<R: Steps>(asked: &Question<R>, way: &Way) -> Option<Sheet>
-    requires { let q = asked.now in OnWay R.kind q.first.now q.second.now q.rigid way.now.sigma.now way.now.old.now way.now.rest.now }
-    ensures { let q = asked.now in Searched result R.kind q.first.now q.second.now q.rigid way.now.sigma.now way.now.old.now }
+    requires { let q = asked.now in OnWay R.KIND q.first.now q.second.now q.rigid way.now.sigma.now way.now.old.now way.now.rest.now }
+    ensures { let q = asked.now in Searched result R.KIND q.first.now q.second.now q.rigid way.now.sigma.now way.now.old.now }
 {
     let Some((next, rest)) = way.rest.split_first() else {
         return R::finish(asked, way);

@@ -14,11 +14,11 @@ search-requires g t c κs within =
     let q = c.args.asked.now in
     let way = c.args.way.now in
     let split : way.rest.now ≡ c.in-Some.next.now ∷ c.in-Some.rest.now = c.in-Some.ensures.cases.0 in
-    let node = subst (OnWay g.R.Relation.kind q.first.now q.second.now q.rigid way.sigma.now way.old.now) split c.requires in (
+    let node = subst (OnWay g.R.Relation.KIND q.first.now q.second.now q.rigid way.sigma.now way.old.now) split c.requires in (
       grind (arith, split, c.decreases),
       (
         within,
-        next_new g.R.Relation.kind q.first.now q.second.now q.rigid q.flags way.sigma.now way.old.now c.in-Some.rest.now c.in-Some.next.now node
+        next_new g.R.Relation.KIND q.first.now q.second.now q.rigid q.flags way.sigma.now way.old.now c.in-Some.rest.now c.in-Some.next.now node
             c.in-Some-unify.sigma c.head-head-items.result.now c.loop-head.head-index c.head-head-items.ensures.same c.loop-head-test.true c.in-Some-unify.ensures,
       ),
     )
@@ -30,21 +30,21 @@ loop-head-preserved g t c =
     let heads = c.head-head-items.result.now in
     let i = c.loop-head.head-index in
     let next = c.in-Some.next.now in
-    each_taken (NotJoined g.R.Relation.kind q.first.now q.second.now q.rigid way.sigma.now way.old.now next) heads i no_atom c.loop-head-test.true c.loop-head.invariant
+    each_taken (NotJoined g.R.Relation.KIND q.first.now q.second.now q.rigid way.sigma.now way.old.now next) heads i no_atom c.loop-head-test.true c.loop-head.invariant
     (elim c.match-unify.branch [
       | in-Some-unify+in_default-search w ↦
-          not_followed g.R.Relation.kind q.first.now q.second.now q.rigid q.flags way.sigma.now way.old.now next (get_or heads i no_atom) w.in-Some-unify.sigma
+          not_followed g.R.Relation.KIND q.first.now q.second.now q.rigid q.flags way.sigma.now way.old.now next (get_or heads i no_atom) w.in-Some-unify.sigma
           w.in-Some-unify.ensures w.in_default-search.ensures
       | in_default-unify w ↦
-          not_unified g.R.Relation.kind q.first.now q.second.now q.rigid q.flags way.sigma.now way.old.now next (get_or heads i no_atom) w.in_default-unify.ensures
+          not_unified g.R.Relation.KIND q.first.now q.second.now q.rigid q.flags way.sigma.now way.old.now next (get_or heads i no_atom) w.in_default-unify.ensures
     ])
 
 pub push_all-requires : goal.push_all-requires
 push_all-requires g t c =
     let q = c.args.asked.now in
     let way = c.args.way.now in
-    let few = old_few g.R.Relation.kind q.first.now q.second.now q.rigid way.sigma.now way.old.now c.in-Some.next.now c.in-Some.rest.now
-    (subst (OnWay g.R.Relation.kind q.first.now q.second.now q.rigid way.sigma.now way.old.now) c.in-Some.ensures.cases.0 c.requires) in
+    let few = old_few g.R.Relation.KIND q.first.now q.second.now q.rigid way.sigma.now way.old.now c.in-Some.next.now c.in-Some.rest.now
+    (subst (OnWay g.R.Relation.KIND q.first.now q.second.now q.rigid way.sigma.now way.old.now) c.in-Some.ensures.cases.0 c.requires) in
     let none = ap length c.new-more.ensures in
     omega (arith, few, none)
 
@@ -54,11 +54,11 @@ search-requires-2 g t c κs within =
     let way = c.args.way.now in
     let next = c.in-Some.next.now in
     let split : way.rest.now ≡ next ∷ c.in-Some.rest.now = c.in-Some.ensures.cases.0 in
-    let node = subst (OnWay g.R.Relation.kind q.first.now q.second.now q.rigid way.sigma.now way.old.now) split c.requires in (
+    let node = subst (OnWay g.R.Relation.KIND q.first.now q.second.now q.rigid way.sigma.now way.old.now) split c.requires in (
       grind (arith, split, c.decreases),
       (
         within,
-        next_old g.R.Relation.kind q.first.now q.second.now q.rigid q.flags way.sigma.now way.old.now c.in-Some.rest.now next node c.deref.result.now
+        next_old g.R.Relation.KIND q.first.now q.second.now q.rigid q.flags way.sigma.now way.old.now c.in-Some.rest.now next node c.deref.result.now
             (c.deref.ensures.0 ∙ and_one c.new-more.result.items c.push_all.new.into.items c.push.new.self.items way.old.now next c.new-more.ensures c.push_all.ensures c.push.ensures.items),
       ),
     )
@@ -69,10 +69,10 @@ returns g t c =
     let way = c.args.way.now in
     let heads = c.head-head-items.result.now in
     let next = c.in-Some.next.now in
-    let node = subst (OnWay g.R.Relation.kind q.first.now q.second.now q.rigid way.sigma.now way.old.now) c.in-Some.ensures.cases.0 c.requires in
-    searched_old g.R.Relation.kind q.first.now q.second.now q.rigid q.flags way.sigma.now c.search-2.result way.old.now c.deref.result.now heads next
-    (next_in g.R.Relation.kind q.first.now q.second.now q.rigid q.flags way.sigma.now way.old.now c.in-Some.rest.now next node)
+    let node = subst (OnWay g.R.Relation.KIND q.first.now q.second.now q.rigid way.sigma.now way.old.now) c.in-Some.ensures.cases.0 c.requires in
+    searched_old g.R.Relation.KIND q.first.now q.second.now q.rigid q.flags way.sigma.now c.search-2.result way.old.now c.deref.result.now heads next
+    (next_in g.R.Relation.KIND q.first.now q.second.now q.rigid q.flags way.sigma.now way.old.now c.in-Some.rest.now next node)
     c.head-head-items.ensures.same
-    (subst (Each (NotJoined g.R.Relation.kind q.first.now q.second.now q.rigid way.sigma.now way.old.now next)) (take_all c.loop-head.head-index heads c.loop-head-test.false) c.loop-head.invariant)
+    (subst (Each (NotJoined g.R.Relation.KIND q.first.now q.second.now q.rigid way.sigma.now way.old.now next)) (take_all c.loop-head.head-index heads c.loop-head-test.false) c.loop-head.invariant)
     (c.deref.ensures.0 ∙ and_one c.new-more.result.items c.push_all.new.into.items c.push.new.self.items way.old.now next c.new-more.ensures c.push_all.ensures c.push.ensures.items)
     c.search-2.ensures
