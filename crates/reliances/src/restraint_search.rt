@@ -168,7 +168,7 @@ fn is_choice(i: usize, sigma: &[Term; 36], rigid: &[bool; 36], given: &[Atom]) -
 
 // What the alternative gives the variables of the second rule.
 fn other_values(sigma: &[Term; 36], rigid: &[bool; 36]) -> [Term; 12]
-    ensures { OtherIs rigid.now sigma.now 12 result }
+    ensures { OtherIs rigid.now sigma.now result }
 {
     array::from_fn(|v| slot_value(shift_term(Term::Variable(v as u16), rigid), sigma, 12))
 }
