@@ -69,7 +69,12 @@ fn unify_terms(a: &[Term], b: &[Term], sigma: &mut [Term], rigid: &[bool]) -> Op
         return None;
     }
     for (s, t) in a.iter().zip(b) {
-        unify_term(sigma, rigid, slot_value(*s, sigma, 0), slot_value(*t, sigma, 12))?;
+        unify_term(
+            sigma,
+            rigid,
+            slot_value(*s, sigma, 0),
+            slot_value(*t, sigma, 12),
+        )?;
     }
     Some(())
 }
