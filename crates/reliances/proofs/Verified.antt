@@ -145,12 +145,6 @@ module _ (A B : Rule) (S : Sheet) (L : List Atom) (listed : L ≡ first_list S) 
       (λ w. subst (λ l. ShowsReliance (meaning A) (meaning B) (formulas l) f s) (sym listed) w.shows)
       d
 
-  pub no_facts : (Each FactAtom L → ⊥) → ShowsPositive (meaning A) (meaning B) S → ⊥
-  no_facts n w = n (subst (Each FactAtom) (sym listed) w.facts)
-
-  pub no_first_facts : (Each FactAtom L → ⊥) → ShowsRestrained (meaning A) (meaning B) S → ⊥
-  no_first_facts n w = n (subst (Each FactAtom) (sym listed) w.facts)
-
   module _ (M : List Atom) (added : M ≡ second_list S) where
     abbrev k : Assignment
     k = look S.alternative
@@ -184,9 +178,6 @@ module _ (A B : Rule) (S : Sheet) (L : List Atom) (listed : L ≡ first_list S) 
         (subst (λ m. ShowsAt (first_list S) m) added (subst (λ l. ShowsAt l M) listed w)))
         (λ w. subst (λ l. ShowsAt l M) (sym listed) (subst (λ m. ShowsAt (first_list S) m) (sym added) w.shows))
         d
-
-    pub no_second_facts : (Each FactAtom M → ⊥) → ShowsRestrained (meaning A) (meaning B) S → ⊥
-    no_second_facts n w = n (subst (Each FactAtom) (sym added) w.more)
 
 -- a sheet that meets the definition shows that the relation holds
 shown_holds : (kind : Kind) (A B : Rule) (S : Sheet) → Shows kind A B S → Holds kind A B
