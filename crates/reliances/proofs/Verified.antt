@@ -18,10 +18,8 @@ use Rattle.matches.specs.Matching.{fact_atom?}
 use Rattle.matches.proofs.Literal.{decides_fact_atom, facts_meant}
 use Rattle.matches.proofs.Basics.{in_map, from_terms, in_terms, either}
 use Rattle.matches.proofs.Bounded.{Within, Bounded, bounded}
-use Rattle.reliances.specs.declared.sheet.Kind.{Kind}
-use Rattle.reliances.specs.declared.sheet.Kind.TheVariants.{Positive, Restraint}
 use Rattle.reliances.specs.declared.sheet.Sheet.{Sheet}
-use Rattle.reliances.specs.Sheets.{first_list, second_list, later_facts, Filled, Matched, Applied, ShowsPositive, ShowsRestrained, Shows, Holds}
+use Rattle.reliances.specs.Sheets.{first_list, second_list, later_facts, Filled, Matched, Applied, ShowsPositive, ShowsRestrained}
 use Rattle.reliances.proofs.Putting.{all_under}
 use Rattle.reliances.proofs.Slots.{facts_under, facts_both}
 
@@ -178,22 +176,3 @@ module _ (A B : Rule) (S : Sheet) (L : List Atom) (listed : L ≡ first_list S) 
         (subst (λ m. ShowsAt (first_list S) m) added (subst (λ l. ShowsAt l M) listed w)))
         (λ w. subst (λ l. ShowsAt l M) (sym listed) (subst (λ m. ShowsAt (first_list S) m) (sym added) w.shows))
         d
-
--- a sheet that meets the definition shows that the relation holds
-shown_holds : (kind : Kind) (A B : Rule) (S : Sheet) → Shows kind A B S → Holds kind A B
-shown_holds Positive A B S w =
-    record { before = formulas (first_list S); first = look S.first_rule; second = look S.second_rule; shows = w.shows }
-shown_holds Restraint A B S w = record {
-  before = formulas (first_list S);
-  later = later_facts (meaning B) S;
-  first = look S.first_rule;
-  second = look S.second_rule;
-  other = look S.alternative;
-  shows = w.shows;
-}
-
--- the answer for the kind that was asked about
-pub verified : (asked kind : Kind) (A B : Rule) (S : Sheet) → asked ≡ kind → (r : Bool) → Decides r (Shows kind A B S)
-    → Decides r (Shows asked A B S) × (r ≡ true → Holds asked A B)
-verified asked kind A B S e r d =
-    let z : Decides r (Shows asked A B S) = subst (λ k. Decides r (Shows k A B S)) (sym e) d in (z, λ q. shown_holds asked A B S (z.0 q))

@@ -90,10 +90,7 @@ pub(crate) fn is_flagged(rigid: &[bool], slot: u16) -> bool
 fn is_rigid(t: Term, rigid: &[bool]) -> bool
     ensures { result ≡ is_rigid? (flags rigid.now) t }
 {
-    match t {
-        Term::Null(n) => is_flagged(rigid, n),
-        _ => false,
-    }
+    matches!(t, Term::Null(n) if is_flagged(rigid, n))
 }
 
 fn any_rigid(a: &Atom, rigid: &[bool]) -> bool
