@@ -1,4 +1,4 @@
-// Short lists of atoms in arrays.
+// Short lists of atoms, and the ways to read them.
 ghost use Rattle.std.specs.Prelude.{◌≡◌, ◌+◌, ◌≤◌, ◌++◌, map, length, take};
 ghost use Rattle.arrayvec.specs.ArrayVec.{array_vec_len};
 ghost use Rattle.rules.specs.declared.Atom.{Atom};
@@ -60,6 +60,7 @@ pub(crate) fn push_all<const N: usize>(atoms: &[Atom], into: &mut ArrayVec<Atom,
     requires { array_vec_len into.old + length atoms.now ≤ N }
     ensures { into.new.items ≡ into.old.items ++ atoms.now }
 {
+    // There is room, so it cannot fail.
     let _ = into.try_extend_from_slice(atoms);
 }
 

@@ -51,13 +51,10 @@ pub(crate) fn wide_slots(sigma: &[Term; 36]) -> &[Term]
 fn keeps_null(kind: Kind, a: &Rule, b: &Rule, slot: u16) -> bool
     ensures { result ≡ rigid_for kind (meaning a.now) (meaning b.now) slot }
 {
-    if slot < 12 {
-        a.is_existential(slot)
-    } else {
-        match kind {
-            Kind::Positive => false,
-            Kind::Restraint => b.is_existential(slot - 12),
-        }
+    match kind {
+        _ if slot < 12 => a.is_existential(slot),
+        Kind::Positive => false,
+        Kind::Restraint => b.is_existential(slot - 12),
     }
 }
 
