@@ -29,19 +29,6 @@ module _ (f : Atom → Atom) (into now : List Atom) (xs : List Atom) (at i : ℕ
   under_done h e l =
       ap (λ n. take (at + n) now) (let q : length xs ≡ i = omega arith in q) ∙ e ∙ ap (λ z. take at into ++ map f z) (take_all i xs h)
 
-module _ (into now : List Atom) (xs : List Atom) (at i : ℕ) where
-  pub put_more : (d : Atom) → i < length xs → at + i < length now → take (at + i) now ≡ take at into ++ take i xs
-      → take (at + (i + 1)) (set now (at + i) (get_or xs i d)) ≡ take at into ++ take (i + 1) xs
-  put_more d h k e =
-      ap (λ n. take n (set now (at + i) (get_or xs i d))) (let e : at + (i + 1) ≡ at + i + 1 = omega arith in e)
-      ∙ take_more_set now (at + i) (get_or xs i d) k ∙ ap (λ z. z ++ (get_or xs i d ∷ [])) e
-      ∙ append_assoc (take at into) (take i xs) (get_or xs i d ∷ [])
-      ∙ ap (λ z. take at into ++ z) (sym (take_more xs i d h))
-
-  pub put_done : length xs ≤ i → take (at + i) now ≡ take at into ++ take i xs → i ≤ length xs → take (at + length xs) now ≡ take at into ++ xs
-  put_done h e l =
-      ap (λ n. take (at + n) now) (let q : length xs ≡ i = omega arith in q) ∙ e ∙ ap (λ z. take at into ++ z) (take_all i xs h)
-
 -- two lists, one after the other
 pub put_two : (xs ys one two : List Atom) (h k : Assignment) → take (0 + length xs) one ≡ map (under_atom h) xs
     → take (length xs + length ys) two ≡ take (length xs) one ++ map (under_atom k) ys → take (length xs + length ys) two ≡ map (under_atom h) xs ++ map (under_atom k) ys

@@ -64,7 +64,7 @@ abbrev pub Gave : List Subst → Bool → Subst → Type 0
 Gave l true σ = l ≡ σ ∷ []
 Gave l false σ = l ≡ []
 
--- the same of an `Option` of nothing
+-- what an attempt that changes the substitution in place gives, and what it leaves behind
 abbrev pub Unified : List Subst → Option (Unit {0}) → Subst → Type 0
 Unified l (Some u) σ = l ≡ σ ∷ []
 Unified l None σ = l ≡ []

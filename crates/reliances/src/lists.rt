@@ -1,4 +1,4 @@
-// Short lists of atoms in arrays.
+// Short lists of atoms, and the ways to read them.
 ghost use Rattle.std.specs.Prelude.{◌≡◌, ◌+◌, ◌≤◌, ◌++◌, map, length, take};
 ghost use Rattle.arrayvec.specs.ArrayVec.{array_vec_len};
 ghost use Rattle.rules.specs.declared.Atom.{Atom};
@@ -10,16 +10,6 @@ ghost use Rattle.reliances.specs.Unification.{of?, shares?};
 use arrayvec::ArrayVec;
 use matches::atom_under;
 use rules::{Atom, Term};
-
-/// Writes the atoms from a place on.
-pub(crate) fn put(atoms: &[Atom], into: &mut [Atom], at: usize)
-    requires { at + length atoms.now ≤ length into.old }
-    ensures { take (at + length atoms.now) into.new ≡ take at into.old ++ atoms.now }
-{
-    for i in 0..atoms.len() {
-        into[at + i] = atoms[i];
-    }
-}
 
 /// Writes the atoms, with their variables as `h` says, from a place on.
 pub(crate) fn put_under(atoms: &[Atom], h: &[Term], into: &mut [Atom], at: usize)
@@ -70,56 +60,20 @@ pub(crate) fn push_all<const N: usize>(atoms: &[Atom], into: &mut ArrayVec<Atom,
     requires { array_vec_len into.old + length atoms.now ≤ N }
     ensures { into.new.items ≡ into.old.items ++ atoms.now }
 {
+    // There is room, so it cannot fail.
     let _ = into.try_extend_from_slice(atoms);
 }
 
-/// The first `n` of the facts on a sheet's first list, or all of them.
-pub(crate) fn first_eleven(atoms: &[Atom; 11], n: u8) -> &[Atom]
-    ensures { (result.now ≡ take n atoms.now) × (length result.now ≤ 11) }
-{
-    if n < 11 {
-        &atoms[0..n as usize]
-    } else {
-        &atoms[0..11]
-    }
-}
-
-/// The first `n` of the facts on a sheet's second list, or all of them.
-pub(crate) fn first_nine(atoms: &[Atom; 9], n: u8) -> &[Atom]
-    ensures { (result.now ≡ take n atoms.now) × (length result.now ≤ 9) }
-{
-    if n < 9 {
-        &atoms[0..n as usize]
-    } else {
-        &atoms[0..9]
-    }
-}
-
-fn is_of(a: &Atom, predicate: u16) -> bool
-    ensures { result ≡ of? predicate (formula_of a.now) }
-{
-    a.predicate == predicate
-}
-
+// Whether one of the atoms has the predicate.
 fn any_of(atoms: &[Atom], predicate: u16) -> bool
     ensures { result ≡ some (of? predicate) (formulas atoms.now) }
 {
-    for i in 0..atoms.len() {
-        if is_of(&atoms[i], predicate) {
-            return true;
-        }
-    }
-    false
+    atoms.iter().any(|a| a.predicate == predicate)
 }
 
 /// Whether an atom of `list` has the predicate of one of `heads`.
 pub(crate) fn share_predicate(heads: &[Atom], list: &[Atom]) -> bool
     ensures { result ≡ shares? (formulas heads.now) (formulas list.now) }
 {
-    for i in 0..list.len() {
-        if any_of(heads, list[i].predicate) {
-            return true;
-        }
-    }
-    false
+    list.iter().any(|b| any_of(heads, b.predicate))
 }

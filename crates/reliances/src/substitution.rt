@@ -1,4 +1,5 @@
 // The 36 slots of a search: the first rule's variables, the second rule's, and the values of an alternative.
+// The flags of rigid slots are a list of their own: they stay as they are through a search, while the slots change.
 ghost use Rattle.std.specs.Prelude.{◌≡◌, ◌≤◌, Decides};
 ghost use Rattle.rules.specs.Logic.{formula_of};
 ghost use Rattle.rules.specs.Rules.{meaning};
@@ -17,38 +18,43 @@ pub(crate) fn start_slots() -> [Term; 36]
     array::from_fn(|i| Term::Null(i as u16))
 }
 
+/// Twelve slots from a slot on.
+fn twelve(sigma: &[Term; 36], from: usize) -> &[Term; 12]
+    requires { from ≤ 24 }
+    ensures { result.now ≡ part sigma.now from }
+{
+    sigma[from..].first_chunk().unwrap()
+}
+
 /// The slots of the first rule's variables.
 pub(crate) fn first_slots(sigma: &[Term; 36]) -> &[Term]
     ensures { result.now ≡ part sigma.now 0 }
 {
-    &sigma[0..12]
+    twelve(sigma, 0)
 }
 
 /// The slots of the second rule's variables.
 pub(crate) fn second_slots(sigma: &[Term; 36]) -> &[Term]
     ensures { result.now ≡ part sigma.now 12 }
 {
-    &sigma[12..24]
+    twelve(sigma, 12)
 }
 
 /// The slots of the second rule's variables, and the alternative's after them.
 pub(crate) fn wide_slots(sigma: &[Term; 36]) -> &[Term]
     ensures { result.now ≡ wide sigma.now }
 {
-    &sigma[12..36]
+    &sigma[12..]
 }
 
 // Whether a slot keeps its null: it is that of an existential variable of a rule that is applied.
 fn keeps_null(kind: Kind, a: &Rule, b: &Rule, slot: u16) -> bool
     ensures { result ≡ rigid_for kind (meaning a.now) (meaning b.now) slot }
 {
-    if slot < 12 {
-        a.is_existential(slot)
-    } else {
-        match kind {
-            Kind::Positive => false,
-            Kind::Restraint => b.is_existential(slot - 12),
-        }
+    match kind {
+        _ if slot < 12 => a.is_existential(slot),
+        Kind::Positive => false,
+        Kind::Restraint => b.is_existential(slot - 12),
     }
 }
 
@@ -63,14 +69,12 @@ pub(crate) fn rigid_slots(kind: Kind, a: &Rule, b: &Rule) -> [bool; 36]
     rigid
 }
 
-/// Twelve slots from a slot on.
+/// A copy of twelve slots from a slot on.
 pub(crate) fn copy_slots(sigma: &[Term; 36], from: usize) -> [Term; 12]
     requires { from ≤ 24 }
     ensures { result ≡ part sigma.now from }
 {
-    let mut slots = [Term::Constant(0); 12];
-    slots.copy_from_slice(&sigma[from..from + 12]);
-    slots
+    *twelve(sigma, from)
 }
 
 /// The flag of a slot; there is none past the list.
@@ -83,10 +87,7 @@ pub(crate) fn is_flagged(rigid: &[bool], slot: u16) -> bool
 fn is_rigid(t: Term, rigid: &[bool]) -> bool
     ensures { result ≡ is_rigid? (flags rigid.now) t }
 {
-    match t {
-        Term::Null(n) => is_flagged(rigid, n),
-        _ => false,
-    }
+    matches!(t, Term::Null(n) if is_flagged(rigid, n))
 }
 
 fn any_rigid(a: &Atom, rigid: &[bool]) -> bool

@@ -13,10 +13,7 @@ use rules::{Atom, Term};
 pub(crate) fn is_flexible(t: Term, rigid: &[bool]) -> bool
     ensures { result ≡ flexible (flags rigid.now) t }
 {
-    match t {
-        Term::Null(n) => !is_flagged(rigid, n),
-        _ => false,
-    }
+    matches!(t, Term::Null(n) if !is_flagged(rigid, n))
 }
 
 fn swapped(x: Term, s: Term, t: Term) -> Term
@@ -53,13 +50,12 @@ fn unify_term(sigma: &mut [Term], rigid: &[bool], s: Term, t: Term) -> Option<()
     }
     if is_flexible(s, rigid) {
         replace(sigma, s, t);
-        return Some(());
-    }
-    if is_flexible(t, rigid) {
+    } else if is_flexible(t, rigid) {
         replace(sigma, t, s);
-        return Some(());
+    } else {
+        return None;
     }
-    None
+    Some(())
 }
 
 fn unify_terms(a: &[Term], b: &[Term], sigma: &mut [Term], rigid: &[bool]) -> Option<()>
@@ -69,7 +65,12 @@ fn unify_terms(a: &[Term], b: &[Term], sigma: &mut [Term], rigid: &[bool]) -> Op
         return None;
     }
     for (s, t) in a.iter().zip(b) {
-        unify_term(sigma, rigid, slot_value(*s, sigma, 0), slot_value(*t, sigma, 12))?;
+        unify_term(
+            sigma,
+            rigid,
+            slot_value(*s, sigma, 0),
+            slot_value(*t, sigma, 12),
+        )?;
     }
     Some(())
 }

@@ -1,4 +1,4 @@
-use Rattle.std.proofs.Common.{◌≡◌, ◌<◌, length, set, ap, ◌∙◌, arith, rules}
+use Rattle.std.proofs.Common.{◌<◌, length, set, ap, ◌∙◌, arith, rules}
 use Rattle.std.proofs.lemmas.List.Edits.{map_over_more}
 use Rattle.reliances.specs.Unification.{replaced}
 use Rattle.reliances.proofs.unifier.replace.Goals as goal
