@@ -9,7 +9,7 @@ ghost use Rattle.reliances.specs.PositiveSearch.{Open, IsFound};
 ghost use Rattle.reliances.specs.Searching.{OnWay, Shut, Searched};
 
 use crate::lists::{Under, push_each};
-use crate::search::{Question, Relation, Way, listed};
+use crate::search::{Question, Relation, Way, counted};
 use crate::substitution::{copy_slots, first_slots, has_rigid, second_slots};
 use crate::{Kind, Sheet};
 use arrayvec::ArrayVec;
@@ -78,7 +78,7 @@ fn found_sheet(asked: &Question<Relies>, way: &Way) -> Sheet
     requires { length way.now.old.now ≤ 5 }
     ensures { IsFound asked.now.first.now way.now.sigma.now way.now.old.now result }
 {
-    let (first, first_len) = listed(&candidate(asked, way));
+    let (first, first_len) = counted(&candidate(asked, way));
     Sheet {
         first,
         first_len,

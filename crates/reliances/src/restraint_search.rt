@@ -9,7 +9,7 @@ ghost use Rattle.reliances.specs.RestraintSearch.{shift_by, shift_atom, laid_lat
 ghost use Rattle.reliances.specs.Searching.{OnWay, Shut, Searched};
 
 use crate::lists::{Reading, Under, push_each};
-use crate::search::{Question, Relation, Way, listed};
+use crate::search::{Question, Relation, Way, counted};
 use crate::substitution::{copy_slots, first_slots, has_rigid, second_slots, wide_slots};
 use crate::unifier::{is_flexible, replace, slot_value};
 use crate::{Kind, Sheet};
@@ -191,8 +191,8 @@ fn found_sheet(asked: &Question<Restrains>, way: &Way) -> Sheet
         &mut extra,
     );
     push_each(way.old, &Under(wide_slots(way.sigma)), &mut extra);
-    let (first, first_len) = listed(&before);
-    let (second, second_len) = listed(&extra);
+    let (first, first_len) = counted(&before);
+    let (second, second_len) = counted(&extra);
     Sheet {
         first,
         first_len,

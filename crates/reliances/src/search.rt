@@ -99,7 +99,7 @@ pub(crate) fn search<R: Relation>(asked: &Question<R>, way: &Way) -> Option<Shee
 }
 
 /// The atoms in an array, and how many they are.
-pub(crate) fn listed<const N: usize>(atoms: &[Atom]) -> ([Atom; N], u8)
+pub(crate) fn counted<const N: usize>(atoms: &[Atom]) -> ([Atom; N], u8)
     requires fits { length atoms.now ≤ N }
     requires counts { length atoms.now ≤ 255 }
     ensures count { result.1 ≡ length atoms.now }
