@@ -17,3 +17,5 @@ pub mod RelianceEnd
 pub mod RestraintNodes
 pub mod RestraintEnd
 pub mod SearchSteps
+pub mod Mapping
+pub mod Laying

@@ -52,7 +52,7 @@ module _ (A B : Rule) (rigid : List Bool) (is : FlagsAre rigid (rigid? (meaning 
     F = take s.first_len s.first
 
     here : formulas F ≡ candidate (meaning A) σ (formulas old)
-    here = listed A B rigid σ old s.first_len s.first f.list
+    here = listed A B rigid σ old F f.list
 
     shows : ShowsReliance (meaning A) (meaning B) (candidate (meaning A) σ (formulas old)) (look (part σ 0)) (look (part σ 12))
     shows = positive.reach_shows (meaning A) (meaning B) (bounded A) (bounded B) (flags rigid) is sa sb σ (formulas old) n.reached o

@@ -1,6 +1,6 @@
 -- What the code of the search for a positive reliance finds at a node, in terms of the node.
 -- Assumes nothing.
-use Rattle.std.proofs.Common.{◌≡◌, ℕ, ◌+◌, ◌-◌, Bool, not, List, ◌++◌, map, length, take, Decides, sym, ap, ◌∙◌, subst, arith}
+use Rattle.std.proofs.Common.{◌≡◌, Bool, not, List, ◌++◌, map, Decides, sym, ap, ◌∙◌, subst}
 use Rattle.std.proofs.lemmas.Bool.Decides.{Decides-like, Decides-not}
 use Rattle.std.proofs.lemmas.List.{map-append}
 use Rattle.rules.specs.declared.Term.{Term}
@@ -20,25 +20,20 @@ module _ (A B : Rule) (rigid : List Bool) (σ : Subst) (old : List Atom) where
   abbrev C : List Formula
   C = candidate (meaning A) σ (formulas old)
 
-  -- what is written for the node
-  abbrev pub Written : ℕ → List Atom → Type 0
-  Written n all = take n all ≡ map (under_atom (look (part σ 0))) (body_of A.parts) ++ map (under_atom (look (part σ 12))) old
+  -- what is listed for the node
+  abbrev pub Listed : List Atom → Type 0
+  Listed all = all ≡ map (under_atom (look (part σ 0))) (body_of A.parts) ++ map (under_atom (look (part σ 12))) old
 
-  pub listed : (n : ℕ) (all : List Atom) → Written n all → formulas (take n all) ≡ C
-  listed n all e =
+  pub listed : (all : List Atom) → Listed all → formulas all ≡ C
+  listed all e =
       ap formulas e ∙ map-append formula_of (map (under_atom (look (part σ 0))) (body_of A.parts)) (map (under_atom (look (part σ 12))) old)
       ∙ (λ i. all_under (look (part σ 0)) (body_of A.parts) i ++ all_under (look (part σ 12)) old i)
 
-  pub listed_part : (n : ℕ) (all : List Atom) → Written n all → formulas (take (n - 0) all) ≡ C
-  listed_part n all e = ap (λ m. formulas (take m all)) (let z : n - 0 ≡ n = omega arith in z) ∙ listed n all e
-
-  pub resulted : (n : ℕ) (all after head : List Atom) (h : List Term) → Written n all → head ≡ head_of A.parts → h ≡ part σ 0
-      → take (n + length head) after ≡ take n all ++ map (under_atom (look h)) head
-      → formulas (take (n + length head - 0) after) ≡ result (meaning A) (look (part σ 0)) C
-  resulted n all after head h e p q f =
-      ap (λ m. formulas (take m after)) (let z : n + length head - 0 ≡ n + length head = omega arith in z)
-      ∙ ap formulas f ∙ map-append formula_of (take n all) (map (under_atom (look h)) head)
-      ∙ (λ i. listed n all e i ++ all_under (look h) head i) ∙ (λ i. C ++ map (under (look (q i))) (formulas (p i)))
+  pub resulted : (all after head : List Atom) (h : List Term) → Listed all → head ≡ head_of A.parts → h ≡ part σ 0 → after ≡ all ++ map (under_atom (look h)) head
+      → formulas after ≡ result (meaning A) (look (part σ 0)) C
+  resulted all after head h e p q f =
+      ap formulas f ∙ map-append formula_of all (map (under_atom (look h)) head)
+      ∙ (λ i. listed all e i ++ all_under (look h) head i) ∙ (λ i. C ++ map (under (look (q i))) (formulas (p i)))
 
   abbrev OpenHere : Type 0
   OpenHere = Open (meaning A) (meaning B) (flags rigid) σ (formulas old)

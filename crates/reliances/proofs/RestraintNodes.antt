@@ -1,9 +1,11 @@
 -- What the code of the search for a restraint finds at a node, in terms of the node.
 -- Assumes nothing.
-use Rattle.std.proofs.Common.{◌≡◌, ℕ, ◌+◌, ◌-◌, ◌<◌, ◌≤◌, Bool, true, false, ltb, List, [], ◌∷◌, ◌++◌, map, length, take, Decides, sym, refl, ap, ◌∙◌, subst, ⊎_elim, arith}
+use Rattle.std.proofs.Common.{◌≡◌, ℕ, ◌+◌, ◌-◌, ◌<◌, ◌≤◌, Bool, true, false, ltb, List, [], ◌∷◌, ◌++◌, map, length, get_or, take, Decides, MatchBool, sym, refl, ap, ◌∙◌, subst, ⊎_elim, arith}
 use Rattle.std.proofs.lemmas.Bool.Decides.{Decides-like}
 use Rattle.std.proofs.lemmas.Bool.{cases_lt, lt-ltb, le-ltb}
 use Rattle.std.proofs.lemmas.List.{map-append, length-map, length-append, append_assoc, get_or-take, take-map, length-take}
+use Rattle.std.proofs.lemmas.List.FromFn.{get_or-range_with_len}
+use Rattle.std.specs.List.{HoldsAt, AllWithin, range_with_len}
 use Rattle.rules.specs.declared.Term.{Term}
 use Rattle.rules.specs.declared.Term.TheVariants.{Constant, Variable, Null}
 use Rattle.rules.specs.declared.Atom.{Atom}
@@ -12,7 +14,7 @@ use Rattle.rules.specs.Logic.{Formula, formula_of, Existential}
 use Rattle.rules.specs.Bounds.{body_of, head_of}
 use Rattle.rules.specs.Matches.{Assignment, Stands, under, Satisfied, result}
 use Rattle.rules.specs.Rules.{meaning}
-use Rattle.rules.proofs.Membership.{in_left}
+use Rattle.rules.proofs.Membership.{in_left, decides_false}
 use Rattle.matches.specs.Lists.{look, formulas, under_atom}
 use Rattle.matches.proofs.Basics.{in_terms, from_terms, map_same}
 use Rattle.matches.proofs.Bounded.{bounded}
@@ -31,12 +33,29 @@ take_first [] [] = refl
 take_first [] (y ∷ ys) = refl
 take_first (x ∷ xs) ys = ap (λ z. x ∷ z) (take_first xs ys)
 
--- a head that was put at the start of an array, as h says
-pub given_is : (B : Rule) (h : Assignment) (head into : List Atom) → head ≡ head_of B.parts → take (0 + length head) into ≡ map (under_atom h) head
-    → formulas (take (length head - 0) into) ≡ map (under h) (meaning B).head
-given_is B h head into p e =
-    ap (λ n. formulas (take n into)) (let z : length head - 0 ≡ 0 + length head = omega arith in z) ∙ ap formulas e ∙ all_under h head
-    ∙ ap (λ z. map (under h) (formulas z)) p
+-- what h makes of a head
+pub given_is : (B : Rule) (h : Assignment) (head given : List Atom) → head ≡ head_of B.parts → given ≡ map (under_atom h) head → formulas given ≡ map (under h) (meaning B).head
+given_is B h head given p e = ap formulas e ∙ all_under h head ∙ ap (λ z. map (under h) (formulas z)) p
+
+-- the rigid slots of B, tried one after the other
+module _ (rigid : List Bool) (F : List Formula) where
+  abbrev pub Spared : ℕ → Type 0
+  Spared r = (flags rigid r ≡ true) × (Stands (Null r) F → ⊥)
+
+  abbrev pub Present : ℕ → Type 0
+  Present r = flags rigid r ≡ true → Stands (Null r) F
+
+  pub spared_decided : length rigid ≡ 36 → (r : Bool)
+      → MatchBool r ((k : ℕ) × (k < 24) × HoldsAt Spared (range_with_len 12 24) k) (AllWithin Present (range_with_len 12 24) 0 24)
+      → Decides r (SomeSpared rigid F)
+  spared_decided long true z =
+      let s = subst Spared (get_or-range_with_len 12 24 z.0 0 z.1) (z.2 0) in
+      ((λ e. (12 + z.0, omega arith, s.0, s.1)), λ e. refl)
+  spared_decided long false z =
+      decides_false (λ w.
+      let below : w.0 - 12 < 24 = (let l = flag_below rigid w.0 w.2 in omega (arith, w.1)) in
+      let same : get_or (range_with_len 12 24) (w.0 - 12) 0 ≡ w.0 = get_or-range_with_len 12 24 (w.0 - 12) 0 below ∙ (let e : 12 + (w.0 - 12) ≡ w.0 = omega (arith, w.1) in e) in
+      w.3 (subst Present same (z (w.0 - 12) 0 (omega arith) below) w.2))
 
 module _ (A B : Rule) (σ : Subst) (old : List Atom) where
   abbrev C : List Formula
@@ -71,9 +90,9 @@ module _ (A B : Rule) (σ : Subst) (old : List Atom) where
         let h = before-length in
         omega arith
 
-    pub before_is : formulas (take (length body - 0) list) ≡ C
+    pub before_is : formulas (take (length body) list) ≡ C
     before_is =
-        ap (λ n. formulas (take n list)) (let e : length body - 0 ≡ length (laid_before B σ) = (let f = before-length in omega arith) in e)
+        ap (λ n. formulas (take n list)) (sym before-length)
         ∙ ap (λ z. formulas (take (length (laid_before B σ)) z)) (laid ∙ append_assoc (laid_before B σ) (map (under_atom (look (part σ 12))) (head_of B.parts)) (laid_extra A σ old))
         ∙ ap formulas (take_first (laid_before B σ) (map (under_atom (look (part σ 12))) (head_of B.parts) ++ laid_extra A σ old)) ∙ laid_before_lem
 
@@ -119,11 +138,10 @@ module _ (A B : Rule) (σ : Subst) (old : List Atom) where
     abbrev pub O : List Formula
     O = map (under (other (meaning B) σ)) (meaning B).head
 
-    pub other_is : (head into : List Atom) (w : List Term) → head ≡ head_of B.parts → w ≡ wide σ
-        → take (0 + length head) into ≡ map (λ a. under_atom (look w) (shift_atom rigid a)) head → formulas (take (length head - 0) into) ≡ O
-    other_is head into w p q e =
-        ap (λ n. formulas (take n into)) (let z : length head - 0 ≡ 0 + length head = omega arith in z) ∙ ap formulas e
-        ∙ (λ i. formulas (map (λ a. under_atom (look (q i)) (shift_atom rigid a)) (p i))) ∙ other_atoms (head_of B.parts)
+    pub other_is : (head others : List Atom) (w : List Term) → head ≡ head_of B.parts → w ≡ wide σ
+        → others ≡ map (λ a. under_atom (look w) (shift_atom rigid a)) head → formulas others ≡ O
+    other_is head others w p q e =
+        ap formulas e ∙ (λ i. formulas (map (λ a. under_atom (look (q i)) (shift_atom rigid a)) (p i))) ∙ other_atoms (head_of B.parts)
 
     before_stands : (t : Term) → Stands t C → Stands t D
     before_stands t i =
