@@ -1,6 +1,6 @@
 -- From node to node of either search as the code goes: the first of the atoms that remain is left old, or is new.
 -- Assumes nothing.
-use Rattle.std.proofs.Common.{◌≡◌, ℕ, zero, suc, ◌+◌, ◌<◌, Bool, true, false, ◌≢◌, List, [], ◌∷◌, ◌++◌, map, length, get_or, take, drop, set, sym, refl, ◌∙◌, subst, inl, inr, ⊎_elim, arith}
+use Rattle.std.proofs.Common.{◌≡◌, ℕ, zero, suc, ◌+◌, ◌<◌, Bool, true, false, ◌≢◌, List, [], ◌∷◌, ◌++◌, map, length, get_or, take, drop, set, sym, refl, ◌∙◌, subst, inl, inr, ⊎_elim, arith, Some}
 use Rattle.std.proofs.lemmas.List.{map-append, length-append, take_more_set, take_more, get_or_past}
 use Rattle.std.proofs.lemmas.Bool.{cases_eq, cases_lt, false≢true}
 use Rattle.rules.specs.declared.Term.TheVariants.{Null}
@@ -102,7 +102,7 @@ module _ (heads all : List Formula) (slots_heads : Each (λ a. Each Slotted a.te
     small_rest = λ x i. n.small_rest x (inr i);
   }
 
-  node_new : (σ τ : Subst) (old : List Atom) (b : Atom) (rest : List Atom) (a : Formula) → In a heads → unify_formulas (flags rigid) 0 12 a (formula_of b) σ ≡ τ ∷ []
+  node_new : (σ τ : Subst) (old : List Atom) (b : Atom) (rest : List Atom) (a : Formula) → In a heads → unify_formulas (flags rigid) 0 12 a (formula_of b) σ ≡ Some τ
       → NodeHere σ old (b ∷ rest) → NodeHere τ old rest
   node_new σ τ old b rest a i e n = record {
     reached = reaching.reach_new heads all slots_heads slots-all (flags rigid) σ τ (formulas old) (formula_of b) (formulas rest) a i e n.reached;
@@ -119,7 +119,7 @@ module _ (heads all : List Formula) (slots_heads : Each (λ a. Each Slotted a.te
     pub old_node : n < length old → NodeHere σ (take (n + 1) (set old n (get_or rest 0 d))) (drop 1 rest)
     old_node l = subst (λ z. NodeHere σ z (drop 1 rest)) (sym (pushed old n (get_or rest 0 d) l)) (node_old σ (take n old) (get_or rest 0 d) (drop 1 rest) split_node)
 
-    pub new_node : (τ : Subst) (a : Formula) → In a heads → unify_formulas (flags rigid) 0 12 a (formula_of (get_or rest 0 d)) σ ≡ τ ∷ [] → NodeHere τ (take n old) (drop 1 rest)
+    pub new_node : (τ : Subst) (a : Formula) → In a heads → unify_formulas (flags rigid) 0 12 a (formula_of (get_or rest 0 d)) σ ≡ Some τ → NodeHere τ (take n old) (drop 1 rest)
     new_node τ a i e = node_new σ τ (take n old) (get_or rest 0 d) (drop 1 rest) a i e split_node
 
     pub first_in : In (formula_of (get_or rest 0 d)) all

@@ -1,6 +1,6 @@
 -- From node to node of either search, by its kind, and what is known after all heads were tried.
 -- Assumes nothing.
-use Rattle.std.proofs.Common.{◌≡◌, ℕ, ◌+◌, ◌<◌, Bool, true, false, ◌⊎◌, List, [], ◌∷◌, ◌++◌, length, get_or, take, drop, set, Decides, sym, refl, ap, ◌∙◌, subst, ⊎_elim}
+use Rattle.std.proofs.Common.{◌≡◌, ℕ, ◌+◌, ◌<◌, Bool, true, false, ◌⊎◌, List, [], ◌∷◌, ◌++◌, length, get_or, take, drop, set, Decides, sym, refl, ap, ◌∙◌, subst, ⊎_elim, Some}
 use Rattle.std.proofs.lemmas.List.{map-append}
 use Rattle.rules.specs.declared.Term.TheVariants.{Null}
 use Rattle.rules.specs.declared.Atom.{Atom}
@@ -46,7 +46,7 @@ follow_start Restraint A B rigid is = restraint.follow_start (meaning A) (meanin
 follow_split : (kind : Kind) (A B : Rule) (rigid : List Bool) → Flagged kind A B rigid → (σ : Subst) (old : List Formula) (b : Formula) → In b (gone kind (meaning B))
     → Follows kind (meaning A) (meaning B) (flags rigid) σ old
     → Follows kind (meaning A) (meaning B) (flags rigid) σ (old ++ (b ∷ []))
-    ⊎ ((a : Formula) × In a (meaning A).head × ((τ : Subst) × (unify_formulas (flags rigid) 0 12 a b σ ≡ τ ∷ []) × Follows kind (meaning A) (meaning B) (flags rigid) τ old))
+    ⊎ ((a : Formula) × In a (meaning A).head × ((τ : Subst) × (unify_formulas (flags rigid) 0 12 a b σ ≡ Some τ) × Follows kind (meaning A) (meaning B) (flags rigid) τ old))
 follow_split Positive A B rigid is = positive.follow_split (meaning A) (meaning B) (bounded A) (bounded B) (flags rigid) is
 follow_split Restraint A B rigid is = restraint.follow_split (meaning A) (meaning B) (bounded A) (bounded B) (flags rigid) is
 
@@ -64,7 +64,7 @@ shows_holds Restraint A B s w = record {
 
 -- the head atom a is not what the atom b is
 abbrev pub NotJoined : Kind → Rule → Rule → List Bool → Subst → List Atom → Atom → Atom → Type 0
-NotJoined kind A B rigid σ old b a = (τ : Subst) → unify_formulas (flags rigid) 0 12 (formula_of a) (formula_of b) σ ≡ τ ∷ [] → Deserted kind A B rigid τ old
+NotJoined kind A B rigid σ old b a = (τ : Subst) → unify_formulas (flags rigid) 0 12 (formula_of a) (formula_of b) σ ≡ Some τ → Deserted kind A B rigid τ old
 
 module _ (kind : Kind) (A B : Rule) (rigid : List Bool) (is : Flagged kind A B rigid) (σ : Subst) where
   abbrev NodeHere : Subst → List Atom → List Atom → Type 0
@@ -91,7 +91,7 @@ module _ (kind : Kind) (A B : Rule) (rigid : List Bool) (is : Flagged kind A B r
     next_old l = old_node (meaning A).head (gone kind (meaning B)) (slots_heads kind A B rigid is) (slots_gone kind A B rigid is) rigid σ old n rest no_atom more node l
 
     pub next_new : (τ : Subst) (heads : List Atom) (i : ℕ) → heads ≡ head_of A.parts → i < length heads
-        → unify_formulas (flags rigid) 0 12 (formula_of (get_or heads i no_atom)) (formula_of b) σ ≡ τ ∷ [] → NodeHere τ (take n old) (drop 1 rest)
+        → unify_formulas (flags rigid) 0 12 (formula_of (get_or heads i no_atom)) (formula_of b) σ ≡ Some τ → NodeHere τ (take n old) (drop 1 rest)
     next_new τ heads i e l u =
         new_node (meaning A).head (gone kind (meaning B)) (slots_heads kind A B rigid is) (slots_gone kind A B rigid is) rigid σ old n rest no_atom more node τ (formula_of (get_or heads i no_atom))
         (in_map formula_of (get_or heads i no_atom) (head_of A.parts) (subst (In (get_or heads i no_atom)) e (get_d_in heads i no_atom l))) u

@@ -1,7 +1,6 @@
 // Unification. A substitution gives each of 36 slots a constant or a null, and a null's number is a slot; a null whose
 // slot is not rigid can be replaced by another term.
 ghost use Rattle.std.specs.Prelude.{◌≡◌, ◌≤◌, Option, map};
-ghost use Rattle.std.specs.Option.{option_to_list};
 ghost use Rattle.rules.specs.Logic.{formula_of};
 ghost use Rattle.rules.specs.Matches.{value};
 ghost use Rattle.reliances.specs.Unification.{through, replaced, flexible, flags, unify, unify_all, unify_formulas, Gave, Unified};
@@ -77,7 +76,7 @@ fn unify_terms(a: &[Term], b: &[Term], sigma: &mut [Term], rigid: &[bool]) -> Op
 
 /// The slots that make an atom of the first rule and one of the second equal, where some do.
 pub(crate) fn unify(a: &Atom, b: &Atom, sigma: &[Term; 36], rigid: &[bool]) -> Option<[Term; 36]>
-    ensures { option_to_list result ≡ unify_formulas (flags rigid.now) 0 12 (formula_of a.now) (formula_of b.now) sigma.now }
+    ensures { result ≡ unify_formulas (flags rigid.now) 0 12 (formula_of a.now) (formula_of b.now) sigma.now }
 {
     if a.predicate != b.predicate {
         return None;

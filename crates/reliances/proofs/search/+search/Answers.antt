@@ -6,8 +6,9 @@ use Rattle.matches.specs.Lists.{formulas}
 use Rattle.reliances.specs.Unification.{flags}
 use Rattle.reliances.specs.Following.{Node}
 use Rattle.reliances.specs.Searching.{gone, Follows, Deserted, Searched}
-use Rattle.matches.proofs.Basics.{nil-cons, heads_same}
 use Rattle.reliances.proofs.Nodes.{no_atom, each_taken, pushed}
+use Rattle.std.proofs.lemmas.Option.{none-some}
+use Rattle.reliances.proofs.Unify.{some_same}
 use Rattle.reliances.proofs.Unifying.{formulas_apart}
 use Rattle.reliances.proofs.SearchSteps.{NotJoined, next_old, next_new, next_in, searched_old}
 use Rattle.reliances.proofs.search.+search.Goals.{then-unify_atoms+else-search, else-unify_atoms}
@@ -50,7 +51,7 @@ loop-i-preserved-then-heads-i t c =
     let b = get_or c.args.rest.now 0 no_atom in (
       c.loop-i.invariant.0,
       each_taken (NotJoined c.args.kind c.args.a.now c.args.b.now c.args.rigid.now c.args.sigma.now (take c.args.n c.args.old.now) b) c.head-heads.result.now c.loop-i.i no_atom (omega arith) c.loop-i.invariant.1
-          (λ τ e. absurd (nil-cons (sym (formulas_apart (flags c.args.rigid.now) 0 12 (formula_of a) (formula_of b) c.args.sigma.now (λ q. c.if-heads-i.true q)) ∙ e))),
+          (λ τ e. absurd (none-some τ (sym (formulas_apart (flags c.args.rigid.now) 0 12 (formula_of a) (formula_of b) c.args.sigma.now (λ q. c.if-heads-i.true q)) ∙ e))),
     )
 
 pub search-requires : goal.search-requires
@@ -82,11 +83,11 @@ loop-i-preserved t c =
           let q = w.if-search.ensures in (
             w.sheet-is ∙ q.1 ∙ c.loop-i.invariant.0,
             each_taken joined c.head-heads.result.now c.loop-i.i no_atom (omega arith) c.loop-i.invariant.1
-                (λ τ e f. q.0 (subst (λ z. Follows c.args.kind (meaning A) (meaning B) (flags c.args.rigid.now) z (formulas old)) (heads_same (sym e ∙ w.if-unify_atoms.ensures)) f)),
+                (λ τ e f. q.0 (subst (λ z. Follows c.args.kind (meaning A) (meaning B) (flags c.args.rigid.now) z (formulas old)) (some_same (sym e ∙ w.if-unify_atoms.ensures)) f)),
           )
       | else-unify_atoms w ↦ (
         w.sheet-is ∙ c.loop-i.invariant.0,
-        each_taken joined c.head-heads.result.now c.loop-i.i no_atom (omega arith) c.loop-i.invariant.1 (λ τ e. absurd (nil-cons (sym w.if-unify_atoms.ensures ∙ e))),
+        each_taken joined c.head-heads.result.now c.loop-i.i no_atom (omega arith) c.loop-i.invariant.1 (λ τ e. absurd (none-some τ (sym w.if-unify_atoms.ensures ∙ e))),
       )
     ]
 
