@@ -60,11 +60,6 @@ abbrev pub Gave : Option Subst → Bool → Subst → Type 0
 Gave o true σ = o ≡ Some σ
 Gave o false σ = o ≡ None
 
--- what an attempt that changes the substitution in place gives, and what it leaves behind
-abbrev pub Unified : Option Subst → Option (Unit {0}) → Subst → Type 0
-Unified o (Some u) σ = o ≡ Some σ
-Unified o None σ = o ≡ None
-
 -- a list of flags as a test
 abbrev pub flags : List Bool → ℕ → Bool
 flags rs r = slice_index_or rs r false
