@@ -55,11 +55,6 @@ abbrev pub unify_formulas : (ℕ → Bool) → ℕ → ℕ → Formula → Formu
 unify_formulas rigid m n a b σ =
     elim (a.predicate == b.predicate) [ true ↦ unify_all rigid m n a.terms b.terms σ | false ↦ None ]
 
--- what a `bool` and the substitution left behind say of an attempt
-abbrev pub Gave : Option Subst → Bool → Subst → Type 0
-Gave o true σ = o ≡ Some σ
-Gave o false σ = o ≡ None
-
 -- a list of flags as a test
 abbrev pub flags : List Bool → ℕ → Bool
 flags rs r = slice_index_or rs r false

@@ -4,7 +4,7 @@ ghost use Rattle.std.specs.Prelude.{◌≡◌, ◌≤◌, Option, map};
 ghost use Rattle.std.specs.Option.{option_map};
 ghost use Rattle.rules.specs.Logic.{formula_of};
 ghost use Rattle.rules.specs.Matches.{value};
-ghost use Rattle.reliances.specs.Unification.{through, replaced, flexible, flags, unify, unify_all, unify_formulas, Gave};
+ghost use Rattle.reliances.specs.Unification.{through, replaced, flexible, flags, unify, unify_all, unify_formulas};
 
 use crate::substitution::is_flagged;
 use matches::look_up;
@@ -85,11 +85,4 @@ pub(crate) fn unify(a: &Atom, b: &Atom, sigma: &[Term; 36], rigid: &[bool]) -> O
     let mut tau = *sigma;
     unify_terms(a.args(), b.args(), &mut tau, rigid)?;
     Some(tau)
-}
-
-/// Makes an atom of the first rule and one of the second equal, if that can be.
-pub(crate) fn unify_atoms(a: &Atom, b: &Atom, sigma: &mut [Term], rigid: &[bool]) -> bool
-    ensures { Gave (unify_formulas (flags rigid.now) 0 12 (formula_of a.now) (formula_of b.now) sigma.old) result sigma.new }
-{
-    a.predicate == b.predicate && unify_terms(a.args(), b.args(), sigma, rigid).is_some()
 }
