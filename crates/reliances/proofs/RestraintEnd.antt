@@ -76,9 +76,6 @@ module _ (A B : Rule) (rigid : List Bool) (is : FlagsAre rigid (rigid_both (mean
           let q : length (shifted (meaning B)) ≡ length head = length-map (meaning B).head _ ∙ length-map (head_of B.parts) formula_of ∙ ap length (sym e) in
           omega arith
 
-  pub fewer_old : (head rest : List Atom) → Node (meaning A).head (shifted (meaning B)) rigid σ old rest → head ≡ head_of B.parts → length head ≤ 4 → length old + length rest < length head → length old ≤ 3
-  fewer_old head rest n e l m = omega arith
-
   -- what the end of a way shows
   module _ (sa : Sizes (meaning A)) (sb : Sizes (meaning B)) (s : Sheet) (n : NodeHere σ []) (o : OpenHere) (none : (k : Assignment) → Alternative (meaning B) (look (part σ 12)) (later_of (meaning A) (meaning B) σ (formulas old)) k → ⊥) (f : IsFound A B rigid σ old s) where
     abbrev F : List Atom

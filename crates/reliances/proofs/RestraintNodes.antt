@@ -3,7 +3,7 @@
 use Rattle.std.proofs.Common.{◌≡◌, ℕ, ◌+◌, ◌-◌, ◌<◌, ◌≤◌, Bool, true, false, ltb, List, [], ◌∷◌, ◌++◌, map, length, get_or, take, Decides, MatchBool, sym, refl, ap, ◌∙◌, subst, ⊎_elim, arith}
 use Rattle.std.proofs.lemmas.Bool.Decides.{Decides-like}
 use Rattle.std.proofs.lemmas.Bool.{cases_lt, lt-ltb, le-ltb}
-use Rattle.std.proofs.lemmas.List.{map-append, length-map, length-append, append_assoc, get_or-take, take-map, length-take}
+use Rattle.std.proofs.lemmas.List.{map-append, length-map, append_assoc, get_or-take, take-map, length-take}
 use Rattle.std.proofs.lemmas.List.FromFn.{get_or-range_with_len}
 use Rattle.std.specs.List.{HoldsAt, AllWithin, range_with_len}
 use Rattle.rules.specs.declared.Term.{Term}
@@ -19,7 +19,7 @@ use Rattle.matches.specs.Lists.{look, formulas, under_atom}
 use Rattle.matches.proofs.Basics.{in_terms, from_terms, map_same}
 use Rattle.matches.proofs.Bounded.{bounded}
 use Rattle.reliances.specs.Unification.{Subst, flags, rigid?, rigid_both, FlagsAre, part, wide, shift_term, shift_formula, other, before_of, extra_of, later_of, HasRigid}
-use Rattle.reliances.specs.RestraintSearch.{shift_by, shift_atom, laid_before, laid_extra, laid_later, SomeSpared, Marks, Open}
+use Rattle.reliances.specs.RestraintSearch.{shift_by, shift_atom, laid_before, laid_extra, laid_later, SomeSpared, Open}
 use Rattle.reliances.proofs.Unify.{elim_true, elim_false}
 use Rattle.reliances.proofs.Slots.{decides_rigid}
 use Rattle.matches.proofs.Steps.{of_under}
@@ -82,14 +82,6 @@ module _ (A B : Rule) (σ : Subst) (old : List Atom) where
     before-length = length-map (body_of B.parts) (under_atom (look (part σ 12))) ∙ ap length (sym p)
 
     -- the body's facts are the first of the list
-    pub enough : length body ≤ length list
-    enough =
-        let e : length list ≡ length (laid_later A B σ old) = ap length laid in
-        let f = length-append (laid_before B σ ++ map (under_atom (look (part σ 12))) (head_of B.parts)) (laid_extra A σ old) in
-        let g = length-append (laid_before B σ) (map (under_atom (look (part σ 12))) (head_of B.parts)) in
-        let h = before-length in
-        omega arith
-
     pub before_is : formulas (take (length body) list) ≡ C
     before_is =
         ap (λ n. formulas (take n list)) (sym before-length)
@@ -109,7 +101,7 @@ module _ (A B : Rule) (σ : Subst) (old : List Atom) where
         let back : 12 + v - 12 ≡ v = omega arith in
         is (12 + v) ∙ elim_false (ltb (12 + v) 12) (rigid? (meaning A) (12 + v)) (rigid? (meaning B) (12 + v - 12)) (le-ltb (12 + v) 12 le) ∙ ap (rigid? (meaning B)) back
 
-    pub marks : Marks (meaning B) rigid
+    marks : (v : ℕ) → Existential (meaning B) v → flags rigid (12 + v) ≡ true
     marks v x = flag_second v ∙ (decides_rigid (meaning B) v).1 x
 
     pub shift_term_lem : (t : Term) → shift_by rigid t ≡ shift_term (meaning B) t

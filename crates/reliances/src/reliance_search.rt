@@ -9,7 +9,7 @@ ghost use Rattle.reliances.specs.PositiveSearch.{Open, IsFound};
 ghost use Rattle.reliances.specs.Searching.{OnWay, Shut, Searched};
 
 use crate::lists::{Under, push_each};
-use crate::search::{Question, Relation, Steps, Way, listed};
+use crate::search::{Question, Relation, Way, listed};
 use crate::substitution::{first_slots, has_rigid, second_slots};
 use crate::{Kind, Sheet};
 use arrayvec::ArrayVec;
@@ -23,9 +23,7 @@ impl Relation for Relies {
     const KIND: Kind = Kind::Positive;
 
     ghost KIND = { Positive };
-}
 
-impl Steps for Relies {
     fn is_shut(asked: &Question<Relies>, way: &Way) -> bool {
         if way.old.len() + way.rest.len() >= asked.second.body().len() {
             return false;

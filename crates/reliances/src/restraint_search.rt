@@ -9,7 +9,7 @@ ghost use Rattle.reliances.specs.RestraintSearch.{shift_by, shift_atom, laid_lat
 ghost use Rattle.reliances.specs.Searching.{OnWay, Shut, Searched};
 
 use crate::lists::{Reading, Under, push_each};
-use crate::search::{Question, Relation, Steps, Way, listed};
+use crate::search::{Question, Relation, Way, listed};
 use crate::substitution::{first_slots, has_rigid, second_slots, wide_slots};
 use crate::unifier::{is_flexible, replace, slot_value};
 use crate::{Kind, Sheet};
@@ -25,9 +25,7 @@ impl Relation for Restrains {
     const KIND: Kind = Kind::Restraint;
 
     ghost KIND = { Restraint };
-}
 
-impl Steps for Restrains {
     fn is_shut(asked: &Question<Restrains>, way: &Way) -> bool {
         if way.old.len() + way.rest.len() >= asked.second.head().len() {
             return false;
@@ -170,7 +168,7 @@ fn is_choice(i: usize, sigma: &[Term; 36], rigid: &[bool; 36], given: &[Atom]) -
 
 // What the alternative gives the variables of the second rule.
 fn other_values(sigma: &[Term; 36], rigid: &[bool; 36]) -> [Term; 12]
-    ensures { OtherIs rigid.now sigma.now 12 result }
+    ensures { OtherIs rigid.now sigma.now result }
 {
     array::from_fn(|v| slot_value(shift_term(Term::Variable(v as u16), rigid), sigma, 12))
 }

@@ -19,6 +19,16 @@ pub(crate) trait Relation {
     const KIND: Kind;
 
     ghost KIND: { Kind };
+
+    /// Whether no facts and matches that show the relation can follow the way.
+    fn is_shut(asked: &Question<Self>, way: &Way) -> bool
+        requires { let q = asked.now in OnWay KIND q.first.now q.second.now q.rigid way.now.sigma.now way.now.old.now way.now.rest.now }
+        ensures { let q = asked.now in Shut result KIND q.first.now q.second.now q.rigid way.now.sigma.now way.now.old.now };
+
+    /// The end of a way, where no atom remains.
+    fn finish(asked: &Question<Self>, way: &Way) -> Option<Sheet>
+        requires { let q = asked.now in OnWay KIND q.first.now q.second.now q.rigid way.now.sigma.now way.now.old.now [] }
+        ensures { let q = asked.now in Searched result KIND q.first.now q.second.now q.rigid way.now.sigma.now way.now.old.now };
 }
 
 /// Whether the relation holds between two rules, with the slots that keep their nulls while that is searched.
@@ -52,21 +62,8 @@ pub(crate) struct Way<'a> {
     pub rest: &'a [Atom],
 }
 
-/// How the search for a relation goes at a node.
-pub(crate) trait Steps: Relation {
-    /// Whether no facts and matches that show the relation can follow the way.
-    fn is_shut(asked: &Question<Self>, way: &Way) -> bool
-        requires { let q = asked.now in OnWay Self.KIND q.first.now q.second.now q.rigid way.now.sigma.now way.now.old.now way.now.rest.now }
-        ensures { let q = asked.now in Shut result Self.KIND q.first.now q.second.now q.rigid way.now.sigma.now way.now.old.now };
-
-    /// The end of a way, where no atom remains.
-    fn finish(asked: &Question<Self>, way: &Way) -> Option<Sheet>
-        requires { let q = asked.now in OnWay Self.KIND q.first.now q.second.now q.rigid way.now.sigma.now way.now.old.now [] }
-        ensures { let q = asked.now in Searched result Self.KIND q.first.now q.second.now q.rigid way.now.sigma.now way.now.old.now };
-}
-
 /// Goes on from the node that a way leads to.
-pub(crate) fn search<R: Steps>(asked: &Question<R>, way: &Way) -> Option<Sheet>
+pub(crate) fn search<R: Relation>(asked: &Question<R>, way: &Way) -> Option<Sheet>
     requires { let q = asked.now in OnWay R.KIND q.first.now q.second.now q.rigid way.now.sigma.now way.now.old.now way.now.rest.now }
     ensures { let q = asked.now in Searched result R.KIND q.first.now q.second.now q.rigid way.now.sigma.now way.now.old.now }
 {

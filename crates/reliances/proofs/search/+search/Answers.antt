@@ -1,10 +1,9 @@
-use Rattle.std.proofs.Common.{◌≡◌, ◌∷◌, length, get_or, ap, ◌∙◌, subst, arith}
+use Rattle.std.proofs.Common.{◌≡◌, ◌∷◌, get_or, ◌∙◌, subst, arith}
 use Rattle.std.proofs.lemmas.List.{take_all}
 use Rattle.rules.specs.Logic.{Each}
 use Rattle.reliances.specs.Searching.{OnWay}
 use Rattle.reliances.proofs.Nodes.{no_atom, each_taken}
 use Rattle.reliances.proofs.Laying.{and_one}
-use Rattle.reliances.proofs.Sizes.{old_few}
 use Rattle.reliances.proofs.SearchSteps.{NotJoined, not_unified, not_followed, next_old, next_new, next_in, searched_old}
 use Rattle.reliances.proofs.search.+search.Goals.{in-Some-unify+in_default-search, in_default-unify}
 use Rattle.reliances.proofs.search.+search.Goals as goal
@@ -38,15 +37,6 @@ loop-head-preserved g t c =
       | in_default-unify w ↦
           not_unified g.R.Relation.KIND q.first.now q.second.now q.rigid q.flags way.sigma.now way.old.now next (get_or heads i no_atom) w.in_default-unify.ensures
     ])
-
-pub push_all-requires : goal.push_all-requires
-push_all-requires g t c =
-    let q = c.args.asked.now in
-    let way = c.args.way.now in
-    let few = old_few g.R.Relation.KIND q.first.now q.second.now q.rigid way.sigma.now way.old.now c.in-Some.next.now c.in-Some.rest.now
-    (subst (OnWay g.R.Relation.KIND q.first.now q.second.now q.rigid way.sigma.now way.old.now) c.in-Some.ensures.cases.0 c.requires) in
-    let none = ap length c.new-more.ensures in
-    omega (arith, few, none)
 
 pub search-requires-2 : goal.search-requires-2
 search-requires-2 g t c κs within =

@@ -1,7 +1,7 @@
 use Rattle.std.proofs.lemmas.Bool.Decides.{not_from_Decides}
 use Rattle.std.proofs.lemmas.Bool.{not-true}
-use Rattle.reliances.proofs.RestraintEnd.{none_open}
-use Rattle.reliances.proofs.restraint_search.RestrainsSteps.is_shut.Goals as goal
+use Rattle.reliances.proofs.RelianceEnd.{none_open}
+use Rattle.reliances.proofs.reliance_search.ReliesRelation.is_shut.Goals as goal
 
 pub returns : goal.returns
 returns c = λ e.

@@ -1,8 +1,8 @@
 use Rattle.std.proofs.Common.{[]}
 use Rattle.std.proofs.lemmas.Bool.Decides.{not_from_Decides}
 use Rattle.reliances.proofs.RelianceEnd.{none_new, none_open, found_shows}
-use Rattle.reliances.proofs.reliance_search.ReliesSteps.finish.Goals.{then-way-body-via-then-way-body, then-way-body-via-else-way-body+then-not-is_open}
-use Rattle.reliances.proofs.reliance_search.ReliesSteps.finish.Goals as goal
+use Rattle.reliances.proofs.reliance_search.ReliesRelation.finish.Goals.{then-way-body-via-then-way-body, then-way-body-via-else-way-body+then-not-is_open}
+use Rattle.reliances.proofs.reliance_search.ReliesRelation.finish.Goals as goal
 
 pub returns-then-way-body : goal.returns-then-way-body
 returns-then-way-body c =

@@ -1,5 +1,5 @@
 use Rattle.reliances.proofs.RestraintEnd.{none_new}
-use Rattle.reliances.proofs.restraint_search.RestrainsSteps.finish.Goals as goal
+use Rattle.reliances.proofs.restraint_search.RestrainsRelation.finish.Goals as goal
 
 pub returns-then-way-head : goal.returns-then-way-head
 returns-then-way-head c =
