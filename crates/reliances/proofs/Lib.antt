@@ -7,7 +7,6 @@ pub mod Restraint
 pub mod Deciding
 pub mod Marked
 pub mod Unifying
-pub mod Putting
 pub mod Rigid
 pub mod Sizes
 pub mod Verified

@@ -1,6 +1,6 @@
 -- From node to node of either search as the code goes: the first of the atoms that remain is left old, or is new.
 -- Assumes nothing.
-use Rattle.std.proofs.Common.{◌≡◌, ℕ, zero, suc, ◌+◌, ◌<◌, Bool, true, false, ◌≢◌, List, [], ◌∷◌, ◌++◌, map, length, get_or, take, sym, refl, ◌∙◌, subst, inl, inr, ⊎_elim, arith}
+use Rattle.std.proofs.Common.{◌≡◌, ℕ, zero, suc, ◌+◌, ◌<◌, Bool, true, false, ◌≢◌, List, [], ◌∷◌, ◌++◌, map, length, get_or, take, sym, refl, ◌∙◌, subst, inl, inr, ⊎_elim, arith, Some}
 use Rattle.std.proofs.lemmas.List.{map-append, length-append, take_more, get_or_past}
 use Rattle.std.proofs.lemmas.Bool.{cases_eq, cases_lt, false≢true}
 use Rattle.rules.specs.declared.Term.TheVariants.{Null}
@@ -93,7 +93,7 @@ module _ (heads all : List Formula) (slots_heads : Each (λ a. Each Slotted a.te
     small_rest = λ x i. n.small_rest x (inr i);
   }
 
-  pub node_new : (σ τ : Subst) (old : List Atom) (b : Atom) (rest : List Atom) (a : Formula) → In a heads → unify_formulas (flags rigid) 0 12 a (formula_of b) σ ≡ τ ∷ []
+  pub node_new : (σ τ : Subst) (old : List Atom) (b : Atom) (rest : List Atom) (a : Formula) → In a heads → unify_formulas (flags rigid) 0 12 a (formula_of b) σ ≡ Some τ
       → NodeHere σ old (b ∷ rest) → NodeHere τ old rest
   node_new σ τ old b rest a i e n = record {
     reached = reaching.reach_new heads all slots_heads slots-all (flags rigid) σ τ (formulas old) (formula_of b) (formulas rest) a i e n.reached;

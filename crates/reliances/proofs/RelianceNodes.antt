@@ -14,7 +14,7 @@ use Rattle.rules.specs.Rules.{meaning}
 use Rattle.matches.specs.Lists.{look, formulas, under_atom}
 use Rattle.reliances.specs.Unification.{Subst, flags, part, candidate, HasRigid}
 use Rattle.reliances.specs.PositiveSearch.{Open}
-use Rattle.reliances.proofs.Putting.{all_under}
+use Rattle.reliances.proofs.Laying.{all_under}
 
 module _ (A B : Rule) (rigid : List Bool) (σ : Subst) (old : List Atom) where
   abbrev C : List Formula

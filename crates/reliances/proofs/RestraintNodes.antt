@@ -23,7 +23,7 @@ use Rattle.reliances.specs.RestraintSearch.{shift_by, shift_atom, laid_before, l
 use Rattle.reliances.proofs.Unify.{elim_true, elim_false}
 use Rattle.reliances.proofs.Slots.{decides_rigid}
 use Rattle.matches.proofs.Steps.{of_under}
-use Rattle.reliances.proofs.Putting.{all_under}
+use Rattle.reliances.proofs.Laying.{all_under}
 use Rattle.reliances.proofs.Nodes.{flag_below}
 use Rattle.reliances.proofs.Restraint as restraint
 

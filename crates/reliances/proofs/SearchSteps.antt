@@ -3,6 +3,7 @@
 use Rattle.std.proofs.Common.{◌≡◌, ℕ, ◌<◌, Bool, true, ◌⊎◌, ◌↔◌, List, [], ◌∷◌, ◌++◌, length, get_or, Option, Some, None, IsSome, sym, refl, ap, ◌∙◌, subst, inl, ⊎_elim}
 use Rattle.std.proofs.lemmas.List.{map-append}
 use Rattle.std.proofs.lemmas.Bool.{false≢true}
+use Rattle.std.proofs.lemmas.Option.{none-some}
 use Rattle.rules.specs.declared.Term.TheVariants.{Null}
 use Rattle.rules.specs.declared.Atom.{Atom}
 use Rattle.rules.specs.declared.rule.Rule.{Rule}
@@ -10,7 +11,7 @@ use Rattle.rules.specs.Logic.{In, Each, Formula, formula_of}
 use Rattle.rules.specs.Bounds.{head_of}
 use Rattle.rules.specs.Rules.{meaning}
 use Rattle.matches.specs.Lists.{look, formulas}
-use Rattle.matches.proofs.Basics.{in_map, from_map, nil-cons, heads_same}
+use Rattle.matches.proofs.Basics.{in_map, from_map}
 use Rattle.matches.proofs.Bounded.{bounded}
 use Rattle.reliances.specs.declared.sheet.Kind.{Kind}
 use Rattle.reliances.specs.declared.sheet.Kind.TheVariants.{Positive, Restraint}
@@ -19,7 +20,7 @@ use Rattle.reliances.specs.Unification.{Subst, start, unify_formulas, flags, Fla
 use Rattle.reliances.specs.Following.{Small, Node}
 use Rattle.reliances.specs.Sheets.{first_list, later_facts, Shows, Holds}
 use Rattle.reliances.specs.Searching.{gone, rigid_for, Follows, Deserted, Searched}
-use Rattle.reliances.proofs.Unify.{Slotted}
+use Rattle.reliances.proofs.Unify.{Slotted, some_same}
 use Rattle.reliances.proofs.Nodes.{no_atom, node_start, node_old, node_new, get_d_in}
 use Rattle.reliances.proofs.Positive as positive
 use Rattle.reliances.proofs.Restraint as restraint
@@ -46,7 +47,7 @@ follow_start Restraint A B rigid is = restraint.follow_start (meaning A) (meanin
 follow_split : (kind : Kind) (A B : Rule) (rigid : List Bool) → Flagged kind A B rigid → (σ : Subst) (old : List Formula) (b : Formula) → In b (gone kind (meaning B))
     → Follows kind (meaning A) (meaning B) (flags rigid) σ old
     → Follows kind (meaning A) (meaning B) (flags rigid) σ (old ++ (b ∷ []))
-    ⊎ ((a : Formula) × In a (meaning A).head × ((τ : Subst) × (unify_formulas (flags rigid) 0 12 a b σ ≡ τ ∷ []) × Follows kind (meaning A) (meaning B) (flags rigid) τ old))
+    ⊎ ((a : Formula) × In a (meaning A).head × ((τ : Subst) × (unify_formulas (flags rigid) 0 12 a b σ ≡ Some τ) × Follows kind (meaning A) (meaning B) (flags rigid) τ old))
 follow_split Positive A B rigid is = positive.follow_split (meaning A) (meaning B) (bounded A) (bounded B) (flags rigid) is
 follow_split Restraint A B rigid is = restraint.follow_split (meaning A) (meaning B) (bounded A) (bounded B) (flags rigid) is
 
@@ -64,7 +65,7 @@ shows_holds Restraint A B s w = record {
 
 -- the head atom a is not what the atom b is
 abbrev pub NotJoined : Kind → Rule → Rule → List Bool → Subst → List Atom → Atom → Atom → Type 0
-NotJoined kind A B rigid σ old b a = (τ : Subst) → unify_formulas (flags rigid) 0 12 (formula_of a) (formula_of b) σ ≡ τ ∷ [] → Deserted kind A B rigid τ old
+NotJoined kind A B rigid σ old b a = (τ : Subst) → unify_formulas (flags rigid) 0 12 (formula_of a) (formula_of b) σ ≡ Some τ → Deserted kind A B rigid τ old
 
 module _ (kind : Kind) (A B : Rule) (rigid : List Bool) (is : Flagged kind A B rigid) (σ : Subst) where
   abbrev NodeHere : Subst → List Atom → List Atom → Type 0
@@ -72,11 +73,11 @@ module _ (kind : Kind) (A B : Rule) (rigid : List Bool) (is : Flagged kind A B r
 
   -- a head atom that was tried
   module _ (old : List Atom) (b a : Atom) where
-    pub not_unified : [] ≡ unify_formulas (flags rigid) 0 12 (formula_of a) (formula_of b) σ → NotJoined kind A B rigid σ old b a
-    not_unified n τ e = absurd (nil-cons (n ∙ e))
+    pub not_unified : None ≡ unify_formulas (flags rigid) 0 12 (formula_of a) (formula_of b) σ → NotJoined kind A B rigid σ old b a
+    not_unified n τ e = absurd (none-some τ (n ∙ e))
 
-    pub not_followed : (τ : Subst) → τ ∷ [] ≡ unify_formulas (flags rigid) 0 12 (formula_of a) (formula_of b) σ → Deserted kind A B rigid τ old → NotJoined kind A B rigid σ old b a
-    not_followed τ u left other e f = left (subst (λ z. Follows kind (meaning A) (meaning B) (flags rigid) z (formulas old)) (heads_same (sym (u ∙ e))) f)
+    pub not_followed : (τ : Subst) → Some τ ≡ unify_formulas (flags rigid) 0 12 (formula_of a) (formula_of b) σ → Deserted kind A B rigid τ old → NotJoined kind A B rigid σ old b a
+    not_followed τ u left other e f = left (subst (λ z. Follows kind (meaning A) (meaning B) (flags rigid) z (formulas old)) (some_same (sym (u ∙ e))) f)
 
   -- after all heads were tried, and the atom was left old
   none_follows : (old heads : List Atom) (b : Atom) → In (formula_of b) (gone kind (meaning B)) → heads ≡ head_of A.parts → Each (NotJoined kind A B rigid σ old b) heads
@@ -98,7 +99,7 @@ module _ (kind : Kind) (A B : Rule) (rigid : List Bool) (is : Flagged kind A B r
         (node_old (meaning A).head (gone kind (meaning B)) (slots_heads kind A B rigid is) (slots_gone kind A B rigid is) rigid σ old b rest node)
 
     pub next_new : (τ : Subst) (heads : List Atom) (i : ℕ) → heads ≡ head_of A.parts → i < length heads
-        → τ ∷ [] ≡ unify_formulas (flags rigid) 0 12 (formula_of (get_or heads i no_atom)) (formula_of b) σ → NodeHere τ old rest
+        → Some τ ≡ unify_formulas (flags rigid) 0 12 (formula_of (get_or heads i no_atom)) (formula_of b) σ → NodeHere τ old rest
     next_new τ heads i e l u =
         node_new (meaning A).head (gone kind (meaning B)) (slots_heads kind A B rigid is) (slots_gone kind A B rigid is) rigid σ τ old b rest (formula_of (get_or heads i no_atom))
         (in_map formula_of (get_or heads i no_atom) (head_of A.parts) (subst (In (get_or heads i no_atom)) e (get_d_in heads i no_atom l))) (sym u) node

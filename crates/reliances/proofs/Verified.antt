@@ -1,6 +1,6 @@
 -- What the tests of a sheet say together, and that entries which are read hold constants and nulls where the tests pass.
 -- Assumes nothing.
-use Rattle.std.proofs.Common.{◌≡◌, ℕ, ◌-◌, ◌≤◌, Bool, true, List, ◌++◌, map, take, Decides, sym, ap, ◌∙◌, subst, inl, inr, ⊎_elim, arith}
+use Rattle.std.proofs.Common.{◌≡◌, ℕ, ◌≤◌, Bool, true, List, ◌++◌, map, Decides, sym, ap, ◌∙◌, subst, inl, inr, ⊎_elim}
 use Rattle.std.proofs.lemmas.Bool.Decides.{Decides-like}
 use Rattle.std.proofs.lemmas.List.{map-append}
 use Rattle.rules.specs.declared.Term.{Term}
@@ -20,7 +20,7 @@ use Rattle.matches.proofs.Basics.{in_map, from_terms, in_terms, either}
 use Rattle.matches.proofs.Bounded.{Within, Bounded, bounded}
 use Rattle.reliances.specs.declared.sheet.Sheet.{Sheet}
 use Rattle.reliances.specs.Sheets.{first_list, second_list, later_facts, Filled, Matched, Applied, ShowsPositive, ShowsRestrained}
-use Rattle.reliances.proofs.Putting.{all_under}
+use Rattle.reliances.proofs.Laying.{all_under}
 use Rattle.reliances.proofs.Slots.{facts_under, facts_both}
 
 null_ground : (t : Term) → IsNull t → Ground t
@@ -73,10 +73,6 @@ pub resulted : (R : Rule) (h : Assignment) (xs head ys : List Atom) → head ≡
 resulted R h xs head ys e p =
     ap formulas p ∙ map-append formula_of xs (map (under_atom h) head)
     ∙ (λ i. formulas xs ++ all_under h head i) ∙ (λ i. formulas xs ++ map (under h) (formulas (e i)))
-
--- the part of an array from its start
-pub from_start : (n : ℕ) (all : List Atom) (F : List Formula) → formulas (take n all) ≡ F → formulas (take (n - 0) all) ≡ F
-from_start n all F e = ap (λ m. formulas (take m all)) (let z : n - 0 ≡ n = omega arith in z) ∙ e
 
 pub reliance_decided : (A B : Implication) (F G : List Formula) (f s : Assignment) → Facts F → G ≡ result A f F → Applies A f F → (Match B s F → ⊥)
     → (r : Bool) → Decides r (Unsatisfied B s G) → Decides r (ShowsReliance A B F f s)

@@ -1,5 +1,5 @@
 // Short lists of atoms, and the ways to read them.
-ghost use Rattle.std.specs.Prelude.{◌≡◌, ◌+◌, ◌≤◌, ◌++◌, map, length, take};
+ghost use Rattle.std.specs.Prelude.{◌≡◌, ◌+◌, ◌≤◌, ◌++◌, map, length};
 ghost use Rattle.arrayvec.specs.ArrayVec.{array_vec_len};
 ghost use Rattle.rules.specs.declared.Atom.{Atom};
 ghost use Rattle.rules.specs.Logic.{formula_of};
@@ -10,16 +10,6 @@ ghost use Rattle.reliances.specs.Unification.{of?, shares?};
 use arrayvec::ArrayVec;
 use matches::atom_under;
 use rules::{Atom, Term};
-
-/// Writes the atoms, with their variables as `h` says, from a place on.
-pub(crate) fn put_under(atoms: &[Atom], h: &[Term], into: &mut [Atom], at: usize)
-    requires { at + length atoms.now ≤ length into.old }
-    ensures { take (at + length atoms.now) into.new ≡ take at into.old ++ map (under_atom (look h.now)) atoms.now }
-{
-    for i in 0..atoms.len() {
-        into[at + i] = atom_under(&atoms[i], h);
-    }
-}
 
 /// A way to read atoms, and what it makes of each.
 pub(crate) trait Reading {

@@ -10,7 +10,7 @@ ghost use Rattle.reliances.specs.Searching.{OnWay, Shut, Searched};
 
 use crate::lists::{Under, push_each};
 use crate::search::{Question, Relation, Way, counted};
-use crate::substitution::{copy_slots, first_slots, has_rigid, second_slots};
+use crate::substitution::{first_slots, has_rigid, second_slots};
 use crate::{Kind, Sheet};
 use arrayvec::ArrayVec;
 use matches::{is_match, is_satisfied, sized};
@@ -82,8 +82,8 @@ fn found_sheet(asked: &Question<Relies>, way: &Way) -> Sheet
     Sheet {
         first,
         first_len,
-        first_rule: copy_slots(way.sigma, 0),
-        second_rule: copy_slots(way.sigma, 12),
+        first_rule: *first_slots(way.sigma),
+        second_rule: *second_slots(way.sigma),
         ..Sheet::BLANK
     }
 }

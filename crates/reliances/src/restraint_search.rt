@@ -10,7 +10,7 @@ ghost use Rattle.reliances.specs.Searching.{OnWay, Shut, Searched};
 
 use crate::lists::{Reading, Under, push_each};
 use crate::search::{Question, Relation, Way, counted};
-use crate::substitution::{copy_slots, first_slots, has_rigid, second_slots, wide_slots};
+use crate::substitution::{first_slots, has_rigid, second_slots, wide_slots};
 use crate::unifier::{is_flexible, replace, slot_value};
 use crate::{Kind, Sheet};
 use arrayvec::ArrayVec;
@@ -198,8 +198,8 @@ fn found_sheet(asked: &Question<Restrains>, way: &Way) -> Sheet
         first_len,
         second,
         second_len,
-        first_rule: copy_slots(way.sigma, 0),
-        second_rule: copy_slots(way.sigma, 12),
+        first_rule: *first_slots(way.sigma),
+        second_rule: *second_slots(way.sigma),
         alternative: other_values(way.sigma, &asked.rigid),
     }
 }

@@ -27,14 +27,14 @@ fn twelve(sigma: &[Term; 36], from: usize) -> &[Term; 12]
 }
 
 /// The slots of the first rule's variables.
-pub(crate) fn first_slots(sigma: &[Term; 36]) -> &[Term]
+pub(crate) fn first_slots(sigma: &[Term; 36]) -> &[Term; 12]
     ensures { result.now ≡ part sigma.now 0 }
 {
     twelve(sigma, 0)
 }
 
 /// The slots of the second rule's variables.
-pub(crate) fn second_slots(sigma: &[Term; 36]) -> &[Term]
+pub(crate) fn second_slots(sigma: &[Term; 36]) -> &[Term; 12]
     ensures { result.now ≡ part sigma.now 12 }
 {
     twelve(sigma, 12)
@@ -62,19 +62,7 @@ fn keeps_null(kind: Kind, a: &Rule, b: &Rule, slot: u16) -> bool
 pub(crate) fn rigid_slots(kind: Kind, a: &Rule, b: &Rule) -> [bool; 36]
     ensures { FlagsAre result (rigid_for kind (meaning a.now) (meaning b.now)) }
 {
-    let mut rigid = [false; 36];
-    for (slot, flag) in rigid.iter_mut().enumerate() {
-        *flag = keeps_null(kind, a, b, slot as u16);
-    }
-    rigid
-}
-
-/// A copy of twelve slots from a slot on.
-pub(crate) fn copy_slots(sigma: &[Term; 36], from: usize) -> [Term; 12]
-    requires { from ≤ 24 }
-    ensures { result ≡ part sigma.now from }
-{
-    *twelve(sigma, from)
+    array::from_fn(|slot| keeps_null(kind, a, b, slot as u16))
 }
 
 /// The flag of a slot; there is none past the list.

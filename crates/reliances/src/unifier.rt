@@ -1,10 +1,10 @@
 // Unification. A substitution gives each of 36 slots a constant or a null, and a null's number is a slot; a null whose
 // slot is not rigid can be replaced by another term.
 ghost use Rattle.std.specs.Prelude.{◌≡◌, ◌≤◌, Option, map};
-ghost use Rattle.std.specs.Option.{option_to_list};
+ghost use Rattle.std.specs.Option.{option_map};
 ghost use Rattle.rules.specs.Logic.{formula_of};
 ghost use Rattle.rules.specs.Matches.{value};
-ghost use Rattle.reliances.specs.Unification.{through, replaced, flexible, flags, unify, unify_all, unify_formulas, Gave, Unified};
+ghost use Rattle.reliances.specs.Unification.{through, replaced, flexible, flags, unify, unify_all, unify_formulas};
 
 use crate::substitution::is_flagged;
 use matches::look_up;
@@ -43,7 +43,7 @@ pub(crate) fn slot_value(t: Term, sigma: &[Term], from: usize) -> Term
 }
 
 fn unify_term(sigma: &mut [Term], rigid: &[bool], s: Term, t: Term) -> Option<()>
-    ensures { Unified (unify (flags rigid.now) sigma.old s t) result sigma.new }
+    ensures { option_map (λ _. sigma.new) result ≡ unify (flags rigid.now) sigma.old s t }
 {
     if s == t {
         return Some(());
@@ -59,7 +59,7 @@ fn unify_term(sigma: &mut [Term], rigid: &[bool], s: Term, t: Term) -> Option<()
 }
 
 fn unify_terms(a: &[Term], b: &[Term], sigma: &mut [Term], rigid: &[bool]) -> Option<()>
-    ensures { Unified (unify_all (flags rigid.now) 0 12 a.now b.now sigma.old) result sigma.new }
+    ensures { option_map (λ _. sigma.new) result ≡ unify_all (flags rigid.now) 0 12 a.now b.now sigma.old }
 {
     if a.len() != b.len() {
         return None;
@@ -77,7 +77,7 @@ fn unify_terms(a: &[Term], b: &[Term], sigma: &mut [Term], rigid: &[bool]) -> Op
 
 /// The slots that make an atom of the first rule and one of the second equal, where some do.
 pub(crate) fn unify(a: &Atom, b: &Atom, sigma: &[Term; 36], rigid: &[bool]) -> Option<[Term; 36]>
-    ensures { option_to_list result ≡ unify_formulas (flags rigid.now) 0 12 (formula_of a.now) (formula_of b.now) sigma.now }
+    ensures { result ≡ unify_formulas (flags rigid.now) 0 12 (formula_of a.now) (formula_of b.now) sigma.now }
 {
     if a.predicate != b.predicate {
         return None;
@@ -85,11 +85,4 @@ pub(crate) fn unify(a: &Atom, b: &Atom, sigma: &[Term; 36], rigid: &[bool]) -> O
     let mut tau = *sigma;
     unify_terms(a.args(), b.args(), &mut tau, rigid)?;
     Some(tau)
-}
-
-/// Makes an atom of the first rule and one of the second equal, if that can be.
-pub(crate) fn unify_atoms(a: &Atom, b: &Atom, sigma: &mut [Term], rigid: &[bool]) -> bool
-    ensures { Gave (unify_formulas (flags rigid.now) 0 12 (formula_of a.now) (formula_of b.now) sigma.old) result sigma.new }
-{
-    a.predicate == b.predicate && unify_terms(a.args(), b.args(), sigma, rigid).is_some()
 }

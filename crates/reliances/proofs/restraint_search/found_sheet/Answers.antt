@@ -9,8 +9,8 @@ returns c =
     record {
       few = (let l = c.deref.ensures.1 in omega (arith, l, c.counted-first_len.ensures.count));
       fewer = (let l = c.deref-2.ensures.1 in omega (arith, l, c.counted-second_len.ensures.count));
-      first_rule = c.copy_slots.ensures;
-      second_rule = c.copy_slots-2.ensures;
+      first_rule = c.first_slots-2.ensures;
+      second_rule = c.second_slots-2.ensures;
       other = c.other_values.ensures;
       list =
           c.counted-first_len.ensures.atoms ∙ c.deref.ensures.0 ∙ laid_one _ c.push_each.new.into.items _ c.body.result.now c.new-before.ensures c.push_each.ensures
