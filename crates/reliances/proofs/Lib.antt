@@ -8,7 +8,6 @@ pub mod Deciding
 pub mod Marked
 pub mod Unifying
 pub mod Rigid
-pub mod Sizes
 pub mod Verified
 pub mod Nodes
 pub mod RelianceNodes

@@ -14,7 +14,7 @@ use Rattle.rules.specs.Rules.{meaning}
 use Rattle.matches.specs.Lists.{look, formulas, under_atom}
 use Rattle.reliances.specs.Unification.{Subst, flags, part, candidate, HasRigid}
 use Rattle.reliances.specs.PositiveSearch.{Open}
-use Rattle.reliances.proofs.Laying.{all_under}
+use Rattle.reliances.proofs.Laying.{all_under, along}
 
 module _ (A B : Rule) (rigid : List Bool) (σ : Subst) (old : List Atom) where
   abbrev C : List Formula
@@ -39,26 +39,14 @@ module _ (A B : Rule) (rigid : List Bool) (σ : Subst) (old : List Atom) where
   OpenHere = Open (meaning A) (meaning B) (flags rigid) σ (formulas old)
 
   module _ (h k : List Term) (F : List Formula) (q : h ≡ part σ 0) (p : k ≡ part σ 12) (e : F ≡ C) where
-    first_here : Satisfied (meaning A) (look h) F → Satisfied (meaning A) (look (part σ 0)) C
-    first_here s = subst (λ z. Satisfied (meaning A) (look (part σ 0)) z) e (subst (λ z. Satisfied (meaning A) (look z) F) q s)
-
-    first_there : Satisfied (meaning A) (look (part σ 0)) C → Satisfied (meaning A) (look h) F
-    first_there s = subst (λ z. Satisfied (meaning A) (look z) F) (sym q) (subst (λ z. Satisfied (meaning A) (look (part σ 0)) z) (sym e) s)
-
-    match_here : Match (meaning B) (look k) F → Match (meaning B) (look (part σ 12)) C
-    match_here s = subst (λ z. Match (meaning B) (look (part σ 12)) z) e (subst (λ z. Match (meaning B) (look z) F) p s)
-
-    match_there : Match (meaning B) (look (part σ 12)) C → Match (meaning B) (look k) F
-    match_there s = subst (λ z. Match (meaning B) (look z) F) (sym p) (subst (λ z. Match (meaning B) (look (part σ 12)) z) (sym e) s)
-
     pub rigid_shut : HasRigid (flags rigid) F → OpenHere → ⊥
     rigid_shut z o = o.spare z.0 z.1 (subst (Stands (Null z.0)) e z.2)
 
     pub first_shut : Satisfied (meaning A) (look h) F → OpenHere → ⊥
-    first_shut s o = o.first (first_here s)
+    first_shut s o = o.first (along (Satisfied (meaning A)) h (part σ 0) F C q e s)
 
     pub new_shut : Match (meaning B) (look k) F → OpenHere → ⊥
-    new_shut s o = o.new (match_here s)
+    new_shut s o = o.new (along (Match (meaning B)) k (part σ 12) F C p e s)
 
     abbrev G : List Formula
     G = result (meaning A) (look (part σ 0)) C
@@ -70,9 +58,9 @@ module _ (A B : Rule) (rigid : List Bool) (σ : Subst) (old : List Atom) where
         Decides-like (not r)
         (λ u. record {
           spare = λ n x i. spare (n, x, subst (Stands (Null n)) (sym e) i);
-          first = λ s. first (first_there s);
-          second = λ s. u (subst (λ z. Satisfied (meaning B) (look z) H) (sym p) (subst (λ z. Satisfied (meaning B) (look (part σ 12)) z) (sym g) s));
-          new = λ s. new (match_there s);
+          first = λ s. first (along (Satisfied (meaning A)) (part σ 0) h C F (sym q) (sym e) s);
+          second = λ s. u (along (Satisfied (meaning B)) (part σ 12) k G H (sym p) (sym g) s);
+          new = λ s. new (along (Match (meaning B)) (part σ 12) k C F (sym p) (sym e) s);
         })
-        (λ o s. o.second (subst (λ z. Satisfied (meaning B) (look (part σ 12)) z) g (subst (λ z. Satisfied (meaning B) (look z) H) p s)))
+        (λ o s. o.second (along (Satisfied (meaning B)) k (part σ 12) H G p g s))
         (Decides-not r d)

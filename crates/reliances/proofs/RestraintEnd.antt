@@ -118,10 +118,8 @@ module _ (A B : Rule) (rigid : List Bool) (is : FlagsAre rigid (rigid_both (mean
 
     all_shows : ShowsRestraint (meaning A) (meaning B) (formulas F) (later_facts (meaning B) s) (look s.first_rule) (look s.second_rule) (look s.alternative)
     all_shows =
-        subst (λ z. ShowsRestraint (meaning A) (meaning B) z (later_facts (meaning B) s) (look s.first_rule) (look s.second_rule) (look s.alternative)) (sym before_here)
-        (subst (λ z. ShowsRestraint (meaning A) (meaning B) (before_of (meaning B) σ) z (look s.first_rule) (look s.second_rule) (look s.alternative)) (sym later_here)
-        (subst (λ z. ShowsRestraint (meaning A) (meaning B) (before_of (meaning B) σ) (later_of (meaning A) (meaning B) σ (formulas old)) z (look s.second_rule) (look s.alternative)) (ap look (sym f.first_rule))
-        (subst (λ z. ShowsRestraint (meaning A) (meaning B) (before_of (meaning B) σ) (later_of (meaning A) (meaning B) σ (formulas old)) (look (part σ 0)) z (look s.alternative)) (ap look (sym f.second_rule)) shows)))
+        subst (λ (t : Type 0). t)
+        (λ i. ShowsRestraint (meaning A) (meaning B) (sym before_here i) (sym later_here i) (look (sym f.first_rule i)) (look (sym f.second_rule i)) (look s.alternative)) shows
 
     pub found_shows : ShowsRestrained (meaning A) (meaning B) s
     found_shows = record {

@@ -23,7 +23,7 @@ use Rattle.reliances.specs.RestraintSearch.{shift_by, shift_atom, laid_before, l
 use Rattle.reliances.proofs.Unify.{elim_true, elim_false}
 use Rattle.reliances.proofs.Slots.{decides_rigid}
 use Rattle.matches.proofs.Steps.{of_under}
-use Rattle.reliances.proofs.Laying.{all_under}
+use Rattle.reliances.proofs.Laying.{all_under, along}
 use Rattle.reliances.proofs.Nodes.{flag_below}
 use Rattle.reliances.proofs.Restraint as restraint
 
@@ -161,18 +161,6 @@ module _ (A B : Rule) (σ : Subst) (old : List Atom) where
     OpenHere = Open (meaning A) (meaning B) σ (formulas old)
 
     module _ (h k : List Term) (F H T : List Formula) (q : h ≡ part σ 0) (p : k ≡ part σ 12) (e : F ≡ C) (d : H ≡ D) (o : T ≡ O) where
-      second_here : Satisfied (meaning B) (look k) F → Satisfied (meaning B) (look (part σ 12)) C
-      second_here s = subst (λ z. Satisfied (meaning B) (look (part σ 12)) z) e (subst (λ z. Satisfied (meaning B) (look z) F) p s)
-
-      second_there : Satisfied (meaning B) (look (part σ 12)) C → Satisfied (meaning B) (look k) F
-      second_there s = subst (λ z. Satisfied (meaning B) (look z) F) (sym p) (subst (λ z. Satisfied (meaning B) (look (part σ 12)) z) (sym e) s)
-
-      first_here : Satisfied (meaning A) (look h) H → Satisfied (meaning A) (look (part σ 0)) D
-      first_here s = subst (λ z. Satisfied (meaning A) (look (part σ 0)) z) d (subst (λ z. Satisfied (meaning A) (look z) H) q s)
-
-      first_there : Satisfied (meaning A) (look (part σ 0)) D → Satisfied (meaning A) (look h) H
-      first_there s = subst (λ z. Satisfied (meaning A) (look z) H) (sym q) (subst (λ z. Satisfied (meaning A) (look (part σ 0)) z) (sym d) s)
-
       pub rigid_shut : HasRigid (flags rigid) F → OpenHere → ⊥
       rigid_shut z w =
           ⊎_elim
@@ -184,7 +172,7 @@ module _ (A B : Rule) (σ : Subst) (old : List Atom) where
           (cases_lt z.0 12)
 
       pub second_shut : Satisfied (meaning B) (look k) F → OpenHere → ⊥
-      second_shut s w = w.second (second_here s)
+      second_shut s w = w.second (along (Satisfied (meaning B)) k (part σ 12) F C p e s)
 
       pub firsts_shut : HasRigid (flags firsts) H → OpenHere → ⊥
       firsts_shut z w =
@@ -192,7 +180,7 @@ module _ (A B : Rule) (σ : Subst) (old : List Atom) where
           w.spare_first z.0 (rigid_first_is z.0 l (sym (get_or-take 12 rigid z.0 false l) ∙ z.1)) (subst (Stands (Null z.0)) d z.2)
 
       pub first_shut : Satisfied (meaning A) (look h) H → OpenHere → ⊥
-      first_shut s w = w.first (first_here s)
+      first_shut s w = w.first (along (Satisfied (meaning A)) h (part σ 0) H D q d s)
 
       pub open_decided : (HasRigid (flags rigid) F → ⊥) → (Satisfied (meaning B) (look k) F → ⊥) → (HasRigid (flags firsts) H → ⊥) → (Satisfied (meaning A) (look h) H → ⊥)
           → (r : Bool) → Decides r (SomeSpared rigid T) → Decides r OpenHere
@@ -200,11 +188,11 @@ module _ (A B : Rule) (σ : Subst) (old : List Atom) where
           Decides-like r
           (λ z. record {
             spare_second = λ v x i. spare (12 + v, marks v x, subst (Stands (Null (12 + v))) (sym e) i);
-            second = λ s. second (second_there s);
+            second = λ s. second (along (Satisfied (meaning B)) (part σ 12) k C F (sym p) (sym e) s);
             spare_first = λ v x i.
                 let l : v < 12 = (bounded A).head (Variable v) x.0 in
                 firsts-spare (v, get_or-take 12 rigid v false l ∙ flag_first v l ∙ (decides_rigid (meaning A) v).1 x, subst (Stands (Null v)) (sym d) i);
-            first = λ s. first (first_there s);
+            first = λ s. first (along (Satisfied (meaning A)) (part σ 0) h D H (sym q) (sym d) s);
             spared =
                 let same : z.0 ≡ 12 + (z.0 - 12) = (let l = z.1 in omega arith) in
                 (z.0 - 12, rigid_second_is (z.0 - 12) (ap (flags rigid) (sym same) ∙ z.2), λ i. z.3 (subst (λ n. Stands (Null n) T) (sym same) (subst (Stands (Null (12 + (z.0 - 12)))) (sym o) i)));
