@@ -6,7 +6,6 @@ pub mod Positive
 pub mod Restraint
 pub mod Deciding
 pub mod Marked
-pub mod Unifying
 pub mod Rigid
 pub mod Verified
 pub mod Nodes
