@@ -175,7 +175,7 @@ module _ (A B : Rule) (rigid : List Bool) (is : FlagsAre rigid (rigid_both (mean
             (sym (ap (λ q. look q v) p ∙ restraint.reach_null (meaning A) (meaning B) (bounded A) (bounded B) (flags rigid) is σ (formulas old) [] n.reached v early.given)) i)
 
   -- a slot that is no choice needs no trying
-  pub no_choice : (v i : ℕ) (F : List Formula) (t : Term) → (IsChoice rigid σ i F t → ⊥) → Each (Refuted A B rigid σ old v F) (take i σ) → Refuted A B rigid σ old v F t
+  pub no_choice : (v i : ℕ) (F : List Formula) (t : Term) → (IsChoice rigid (take i σ) F t → ⊥) → Each (Refuted A B rigid σ old v F) (take i σ) → Refuted A B rigid σ old v F t
   no_choice v i F t no_way tried r e flex stand =
       ⊎_elim
       (λ j. tried t j r e flex stand)

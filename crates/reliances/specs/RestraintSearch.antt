@@ -66,9 +66,9 @@ abbrev pub EarlyFound : Implication → Assignment → List Formula → Option E
 EarlyFound B h S (Some e) = Spares B h S e.spared (look e.values)
 EarlyFound B h S None = (k : Assignment) → Alternative B h S k → ⊥
 
--- the term is a flexible null that stands in the formulas, and not in an earlier slot
-abbrev pub IsChoice : List Bool → Subst → ℕ → List Formula → Term → Type 0
-IsChoice rigid σ i F t = (flexible (flags rigid) t ≡ true) × (In t (take i σ) → ⊥) × Stands t F
+-- the term is a flexible null that stands in the formulas, and in no slot before
+abbrev pub IsChoice : List Bool → List Term → List Formula → Term → Type 0
+IsChoice rigid before F t = (flexible (flags rigid) t ≡ true) × (In t before → ⊥) × Stands t F
 
 -- the list holds what the alternative gives the variables
 abbrev pub OtherIs : List Bool → Subst → List Term → Type 0

@@ -1,8 +1,7 @@
 // The nodes of the search for a restraint, and the end of a way, where alternatives that come too early are refined away.
-ghost use Rattle.std.specs.Prelude.{◌≡◌, ◌+◌, ◌<◌, ◌≤◌, [], ◌++◌, map, length, Decides, slice_index_or};
+ghost use Rattle.std.specs.Prelude.{◌≡◌, ◌+◌, ◌<◌, ◌≤◌, [], ◌++◌, map, length, Decides};
 ghost use Rattle.rules.specs.Logic.{In};
 ghost use Rattle.rules.specs.Rules.{meaning};
-ghost use Rattle.rules.specs.declared.Term.TheVariants.{Constant};
 ghost use Rattle.matches.specs.Lists.{look, formulas, under_atom};
 ghost use Rattle.reliances.specs.declared.sheet.Kind.TheVariants.{Restraint};
 ghost use Rattle.reliances.specs.RestraintSearch.{shift_by, shift_atom, laid_later, SomeSpared, EarlyFound, IsChoice, OtherIs, Open, IsFound};
@@ -157,13 +156,11 @@ fn is_slot(t: Term, slots: &[Term]) -> bool
     slots.contains(&t)
 }
 
-// Whether the null of slot `i` is one to refine on: flexible, in the atoms, and not in an earlier slot.
-fn is_choice(i: usize, sigma: &[Term; 36], rigid: &[bool; 36], given: &[Atom]) -> bool
-    requires { i < 36 }
-    ensures { Decides result (IsChoice rigid.now sigma.now i (formulas given.now) (slice_index_or sigma.now i (Constant 0))) }
+// Whether the term of a slot is one to refine on: a flexible null, in the atoms, and in no slot before.
+fn is_choice(t: Term, before: &[Term], rigid: &[bool], given: &[Atom]) -> bool
+    ensures { Decides result (IsChoice rigid.now before.now (formulas given.now) t) }
 {
-    let t = sigma[i];
-    is_flexible(t, rigid) && !is_slot(t, &sigma[..i]) && stands_in(t, given)
+    is_flexible(t, rigid) && !is_slot(t, before) && stands_in(t, given)
 }
 
 // What the alternative gives the variables of the second rule.
@@ -211,20 +208,21 @@ fn settle(asked: &Question<Restrains>, way: &Way) -> Option<Sheet>
     requires node { OnWay Restraint asked.now.first.now asked.now.second.now asked.now.rigid way.now.sigma.now way.now.old.now [] }
     ensures { Searched result Restraint asked.now.first.now asked.now.second.now asked.now.rigid way.now.sigma.now way.now.old.now }
 {
+    let sigma = way.sigma;
     let list = later(asked, way);
     if !is_open(asked, way, &list) {
         return None;
     }
-    let Some(early) = find_early(asked.second, second_slots(way.sigma), &list) else {
+    let Some(early) = find_early(asked.second, second_slots(sigma), &list) else {
         sized(asked.first);
         sized(asked.second);
         return Some(found_sheet(asked, way));
     };
     let mut given: ArrayVec<Atom, 4> = ArrayVec::new();
     push_each(asked.second.head(), &Under(&early.values), &mut given);
-    for (i, t) in way.sigma.iter().enumerate() {
-        if is_choice(i, way.sigma, &asked.rigid, &given) {
-            let mut tau = *way.sigma;
+    for (i, t) in sigma.iter().enumerate() {
+        if is_choice(*t, &sigma[..i], &asked.rigid, &given) {
+            let mut tau = *sigma;
             replace(&mut tau, *t, Term::Null(12 + early.spared));
             let refined = Way {
                 sigma: &tau,

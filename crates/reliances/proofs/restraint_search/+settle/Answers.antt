@@ -1,4 +1,4 @@
-use Rattle.std.proofs.Common.{◌≡◌, ◌+◌, ◌<◌, [], map, get_or, sym, ap, ◌∙◌, subst, arith}
+use Rattle.std.proofs.Common.{◌≡◌, ◌+◌, ◌<◌, [], map, get_or, take, sym, ap, ◌∙◌, subst, arith}
 use Rattle.std.proofs.lemmas.Bool.Decides.{not_from_Decides}
 use Rattle.std.proofs.lemmas.List.{take_all}
 use Rattle.rules.specs.declared.Term.TheVariants.{Constant, Variable, Null}
@@ -99,7 +99,7 @@ loop-i-preserved t c =
           subst (λ z. Deserted Restraint A B q.rigid z old) (w.replace.ensures ∙ ap (λ s. map (replaced s (Null (12 + v))) σ) e) w.in_default-settle.ensures
       | else-is_choice w ↦
           no_choice A B q.rigid q.flags σ old v i F (get_or σ i (Constant 0))
-          (subst (λ z. IsChoice q.rigid σ i (formulas z) (get_or σ i (Constant 0)) → ⊥) c.deref-in-loop-i.ensures.0
+          (subst (λ z. IsChoice q.rigid (take i σ) (formulas z) (get_or σ i (Constant 0)) → ⊥) c.deref-in-loop-i.ensures.0
           (not_from_Decides c.is_choice.result c.is_choice.ensures w.if-is_choice.false))
           c.loop-i.invariant
     ])

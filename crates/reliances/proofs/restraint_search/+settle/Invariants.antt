@@ -10,4 +10,4 @@ decreases-settle l = loose_count (flags l.asked.now.rigid) l.way.now.sigma.now
 
 abbrev pub invariant-loop-i : goal.invariant-loop-i
 invariant-loop-i l =
-    Each (Refuted l.asked.first.now l.asked.second.now l.asked.rigid l.way.sigma.now l.way.old.now l.early.spared (formulas l.given.items)) (take l.i l.t-items)
+    Each (Refuted l.asked.first.now l.asked.second.now l.asked.rigid l.way.sigma.now l.way.old.now l.early.spared (formulas l.given.items)) (take l.i l.sigma)
