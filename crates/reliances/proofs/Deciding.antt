@@ -52,14 +52,14 @@ any_in p x [] i e = absurd i
 any_in p x (y ∷ ys) (inl q) e = or_left (p y) (any p ys) (ap p (sym q) ∙ e)
 any_in p x (y ∷ ys) (inr i) e = or_right (p y) (any p ys) (any_in p x ys i e)
 
--- the only result passes
-abbrev given : (Subst → Bool) → List Subst → Bool
-given k [] = false
-given k (τ ∷ l) = k τ
+-- the result passes
+abbrev given : (Subst → Bool) → Option Subst → Bool
+given k None = false
+given k (Some τ) = k τ
 
-given_from : (k : Subst → Bool) (l : List Subst) → given k l ≡ true → (τ : Subst) × (k τ ≡ true)
-given_from k [] e = absurd (false≢true e)
-given_from k (τ ∷ l) e = (τ, e)
+given_from : (k : Subst → Bool) (o : Option Subst) → given k o ≡ true → (τ : Subst) × (k τ ≡ true)
+given_from k None e = absurd (false≢true e)
+given_from k (Some τ) e = (τ, e)
 
 -- each atom is unified with one of heads or left old, so that the end passes
 module _ (rigid : ℕ → Bool) (heads : List Formula) (leaf : Subst → List Formula → Bool) where
@@ -84,10 +84,10 @@ module _ (rigid : ℕ → Bool) (heads : List Formula) (leaf : Subst → List Fo
   module _ (all : List Formula) (Followed : Subst → List Formula → Type 0) (Reached : Subst → List Formula → List Formula → Type 0)
       (from : (σ : Subst) (old rest : List Formula) → Reached σ old rest → Each (λ o. In o all) rest)
       (split : (σ : Subst) (old : List Formula) (b : Formula) → In b all → Followed σ old
-      → Followed σ (old ++ (b ∷ [])) ⊎ ((a : Formula) × In a heads × ((τ : Subst) × (unify_formulas rigid 0 12 a b σ ≡ τ ∷ []) × Followed τ old)))
+      → Followed σ (old ++ (b ∷ [])) ⊎ ((a : Formula) × In a heads × ((τ : Subst) × (unify_formulas rigid 0 12 a b σ ≡ Some τ) × Followed τ old)))
       (reach_old : (σ : Subst) (old : List Formula) (b : Formula) (rest : List Formula) → Reached σ old (b ∷ rest) → Reached σ (old ++ (b ∷ [])) rest)
       (reach_new : (σ τ : Subst) (old : List Formula) (b : Formula) (rest : List Formula) (a : Formula) → In a heads
-      → unify_formulas rigid 0 12 a b σ ≡ τ ∷ [] → Reached σ old (b ∷ rest) → Reached τ old rest)
+      → unify_formulas rigid 0 12 a b σ ≡ Some τ → Reached σ old (b ∷ rest) → Reached τ old rest)
       (end : (σ : Subst) (old : List Formula) → Reached σ old [] → Followed σ old → leaf σ old ≡ true) where
     ways_complete : (bs : List Formula) (σ : Subst) (old : List Formula) → Reached σ old bs → Followed σ old → ways? bs σ old ≡ true
     ways_complete [] σ old r w = end σ old r w

@@ -6,10 +6,7 @@ pub mod Positive
 pub mod Restraint
 pub mod Deciding
 pub mod Marked
-pub mod Unifying
-pub mod Putting
 pub mod Rigid
-pub mod Sizes
 pub mod Verified
 pub mod Nodes
 pub mod RelianceNodes
@@ -17,3 +14,5 @@ pub mod RelianceEnd
 pub mod RestraintNodes
 pub mod RestraintEnd
 pub mod SearchSteps
+pub mod Mapping
+pub mod Laying

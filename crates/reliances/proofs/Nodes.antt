@@ -1,7 +1,7 @@
 -- From node to node of either search as the code goes: the first of the atoms that remain is left old, or is new.
 -- Assumes nothing.
-use Rattle.std.proofs.Common.{◌≡◌, ℕ, zero, suc, ◌+◌, ◌<◌, Bool, true, false, ◌≢◌, List, [], ◌∷◌, ◌++◌, map, length, get_or, take, drop, set, sym, refl, ◌∙◌, subst, inl, inr, ⊎_elim, arith}
-use Rattle.std.proofs.lemmas.List.{map-append, length-append, take_more_set, take_more, get_or_past}
+use Rattle.std.proofs.Common.{◌≡◌, ℕ, zero, suc, ◌+◌, ◌<◌, Bool, true, false, ◌≢◌, List, [], ◌∷◌, ◌++◌, map, length, get_or, take, sym, refl, ◌∙◌, subst, inl, inr, ⊎_elim, arith, Some}
+use Rattle.std.proofs.lemmas.List.{map-append, length-append, take_more, get_or_past}
 use Rattle.std.proofs.lemmas.Bool.{cases_eq, cases_lt, false≢true}
 use Rattle.rules.specs.declared.Term.TheVariants.{Null}
 use Rattle.rules.specs.declared.Atom.{Atom}
@@ -60,15 +60,6 @@ get_d_in [] i d l = absurd (omega arith)
 get_d_in (x ∷ xs) zero d l = inl refl
 get_d_in (x ∷ xs) (suc i) d l = inr (get_d_in xs i d (omega arith))
 
--- a list that is not empty
-pub first_rest : (xs : List Atom) (d : Atom) → 0 < length xs → xs ≡ get_or xs 0 d ∷ drop 1 xs
-first_rest [] d l = absurd (omega arith)
-first_rest (x ∷ xs) d l = refl
-
--- one more at the end of what counts
-pub pushed : (old : List Atom) (n : ℕ) (b : Atom) → n < length old → take (n + 1) (set old n b) ≡ take n old ++ (b ∷ [])
-pushed old n b l = take_more_set old n b l
-
 -- one more number of which something holds
 pub below_more : (P : ℕ → Type 0) (n : ℕ) → ((v : ℕ) → v < n → P v) → P n → (v : ℕ) → v < n + 1 → P v
 below_more P n f p v l = ⊎_elim (λ (e : v ≡ n). subst P (sym e) p) (λ (ne : v ≢ n). f v (omega arith)) (cases_eq v n)
@@ -93,7 +84,7 @@ module _ (heads all : List Formula) (slots_heads : Each (λ a. Each Slotted a.te
     small_rest = small;
   }
 
-  node_old : (σ : Subst) (old : List Atom) (b : Atom) (rest : List Atom) → NodeHere σ old (b ∷ rest) → NodeHere σ (old ++ (b ∷ [])) rest
+  pub node_old : (σ : Subst) (old : List Atom) (b : Atom) (rest : List Atom) → NodeHere σ old (b ∷ rest) → NodeHere σ (old ++ (b ∷ [])) rest
   node_old σ old b rest n = record {
     reached = subst (λ z. Reached heads all (flags rigid) σ z (formulas rest)) (sym (map-append formula_of old (b ∷ [])))
         (reaching.reach_old heads all slots_heads slots-all (flags rigid) σ (formulas old) (formula_of b) (formulas rest) n.reached);
@@ -102,7 +93,7 @@ module _ (heads all : List Formula) (slots_heads : Each (λ a. Each Slotted a.te
     small_rest = λ x i. n.small_rest x (inr i);
   }
 
-  node_new : (σ τ : Subst) (old : List Atom) (b : Atom) (rest : List Atom) (a : Formula) → In a heads → unify_formulas (flags rigid) 0 12 a (formula_of b) σ ≡ τ ∷ []
+  pub node_new : (σ τ : Subst) (old : List Atom) (b : Atom) (rest : List Atom) (a : Formula) → In a heads → unify_formulas (flags rigid) 0 12 a (formula_of b) σ ≡ Some τ
       → NodeHere σ old (b ∷ rest) → NodeHere τ old rest
   node_new σ τ old b rest a i e n = record {
     reached = reaching.reach_new heads all slots_heads slots-all (flags rigid) σ τ (formulas old) (formula_of b) (formulas rest) a i e n.reached;
@@ -110,17 +101,3 @@ module _ (heads all : List Formula) (slots_heads : Each (λ a. Each Slotted a.te
     small_old = n.small_old;
     small_rest = λ x i. n.small_rest x (inr i);
   }
-
-  module _ (σ : Subst) (old : List Atom) (n : ℕ) (rest : List Atom) (d : Atom) (more : 0 < length rest) (node : NodeHere σ (take n old) rest) where
-    -- the node with its first atom told apart
-    split_node : NodeHere σ (take n old) (get_or rest 0 d ∷ drop 1 rest)
-    split_node = subst (NodeHere σ (take n old)) (first_rest rest d more) node
-
-    pub old_node : n < length old → NodeHere σ (take (n + 1) (set old n (get_or rest 0 d))) (drop 1 rest)
-    old_node l = subst (λ z. NodeHere σ z (drop 1 rest)) (sym (pushed old n (get_or rest 0 d) l)) (node_old σ (take n old) (get_or rest 0 d) (drop 1 rest) split_node)
-
-    pub new_node : (τ : Subst) (a : Formula) → In a heads → unify_formulas (flags rigid) 0 12 a (formula_of (get_or rest 0 d)) σ ≡ τ ∷ [] → NodeHere τ (take n old) (drop 1 rest)
-    new_node τ a i e = node_new σ τ (take n old) (get_or rest 0 d) (drop 1 rest) a i e split_node
-
-    pub first_in : In (formula_of (get_or rest 0 d)) all
-    first_in = split_node.reached.rest_from (formula_of (get_or rest 0 d)) (inl refl)

@@ -1,7 +1,7 @@
 -- The search for positive reliance: a witness that follows it to a node follows it to one of the children, and what is open at
 -- the end of a path shows the reliance.
 -- Assumes nothing.
-use Rattle.std.proofs.Common.{◌≡◌, ℕ, ◌+◌, ◌-◌, ◌<◌, ◌≤◌, Bool, true, false, ltb, ◌⊎◌, List, [], ◌∷◌, ◌++◌, map, sym, ap, ◌∙◌, subst, inl, inr, ⊎_elim, zero-add, arith}
+use Rattle.std.proofs.Common.{◌≡◌, ℕ, ◌+◌, ◌-◌, ◌<◌, ◌≤◌, Bool, true, false, ltb, ◌⊎◌, List, [], ◌∷◌, ◌++◌, map, sym, ap, ◌∙◌, subst, inl, inr, ⊎_elim, zero-add, arith, Some}
 use Rattle.std.proofs.lemmas.Bool.{cond-true, cond-false, lt-ltb, le-ltb}
 use Rattle.rules.specs.declared.Term.{Term}
 use Rattle.rules.specs.declared.Term.TheVariants.{Variable, Null}
@@ -106,7 +106,7 @@ module _ (A B : Implication) (ba : Bounded A) (bb : Bounded B) (rigid : ℕ → 
     second_under b = under_same (slot θ 12) s b (λ v j. both_second f s v)
 
     abbrev Child : Formula → Type 0
-    Child b = (a : Formula) × In a A.head × ((τ : Subst) × (unify_formulas rigid 0 12 a b σ ≡ τ ∷ []) × Followed A B rigid τ old)
+    Child b = (a : Formula) × In a A.head × ((τ : Subst) × (unify_formulas rigid 0 12 a b σ ≡ Some τ) × Followed A B rigid τ old)
 
     split_at : (b : Formula) → In b B.body → Followed A B rigid σ (old ++ (b ∷ [])) ⊎ Child b
     split_at b i =
@@ -168,7 +168,7 @@ module _ (A B : Implication) (ba : Bounded A) (bb : Bounded B) (rigid : ℕ → 
 
   -- an atom of B's body is old, or unified with an atom of A's head
   pub follow_split : (σ : Subst) (old : List Formula) (b : Formula) → In b B.body → Followed A B rigid σ old
-      → Followed A B rigid σ (old ++ (b ∷ [])) ⊎ ((a : Formula) × In a A.head × ((τ : Subst) × (unify_formulas rigid 0 12 a b σ ≡ τ ∷ []) × Followed A B rigid τ old))
+      → Followed A B rigid σ (old ++ (b ∷ [])) ⊎ ((a : Formula) × In a A.head × ((τ : Subst) × (unify_formulas rigid 0 12 a b σ ≡ Some τ) × Followed A B rigid τ old))
   follow_split σ old b i w = split_at σ old w b i
 
   pub follow_open : (σ : Subst) (old : List Formula) → Each (λ o. In o B.body) old → Followed A B rigid σ old → Open A B rigid σ old
@@ -184,7 +184,7 @@ module _ (A B : Implication) (ba : Bounded A) (bb : Bounded B) (rigid : ℕ → 
   reach_old = reaching.reach_old A.head B.body slots_a slots_b rigid
 
   pub reach_new : (σ τ : Subst) (old : List Formula) (b : Formula) (rest : List Formula) (a : Formula) → In a A.head
-      → unify_formulas rigid 0 12 a b σ ≡ τ ∷ [] → ReachedHere σ old (b ∷ rest) → ReachedHere τ old rest
+      → unify_formulas rigid 0 12 a b σ ≡ Some τ → ReachedHere σ old (b ∷ rest) → ReachedHere τ old rest
   reach_new = reaching.reach_new A.head B.body slots_a slots_b rigid
 
   pub reach_shows : Sizes A → Sizes B → (σ : Subst) (old : List Formula) → ReachedHere σ old [] → Open A B rigid σ old

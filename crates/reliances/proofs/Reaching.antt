@@ -1,6 +1,6 @@
 -- From node to node of a search: what every node has, its children have too.
 -- Assumes nothing.
-use Rattle.std.proofs.Common.{◌≡◌, ℕ, Bool, true, List, [], ◌∷◌, ◌++◌, sym, refl, ◌∙◌, subst, inl, inr, ⊎_elim}
+use Rattle.std.proofs.Common.{◌≡◌, ℕ, Bool, true, List, [], ◌∷◌, ◌++◌, sym, refl, ◌∙◌, subst, inl, inr, ⊎_elim, Some}
 use Rattle.rules.specs.declared.Term.TheVariants.{Null}
 use Rattle.rules.specs.Logic.{In, Each, Formula}
 use Rattle.rules.specs.Matches.{under}
@@ -43,7 +43,7 @@ module _ (heads all : List Formula) (slots_heads : Each (λ a. Each Slotted a.te
   still_joint σ τ j b i z = (z.0, z.1, still_alike σ τ j.refines 0 12 z.0 b (slots_heads z.0 z.1) (slots-all b i) z.2)
 
   pub reach_new : (σ τ : Subst) (old : List Formula) (b : Formula) (rest : List Formula) (a : Formula) → In a heads
-      → unify_formulas rigid 0 12 a b σ ≡ τ ∷ [] → Reached heads all rigid σ old (b ∷ rest) → Reached heads all rigid τ old rest
+      → unify_formulas rigid 0 12 a b σ ≡ Some τ → Reached heads all rigid σ old (b ∷ rest) → Reached heads all rigid τ old rest
   reach_new σ τ old b rest a ia e r = record {
     long = joins.0.long ∙ r.long;
     ground = joins.0.ground r.ground;

@@ -52,7 +52,7 @@ module _ (A B : Rule) (rigid : List Bool) (is : FlagsAre rigid (rigid? (meaning 
     F = take s.first_len s.first
 
     here : formulas F ≡ candidate (meaning A) σ (formulas old)
-    here = listed A B rigid σ old s.first_len s.first f.list
+    here = listed A B rigid σ old F f.list
 
     shows : ShowsReliance (meaning A) (meaning B) (candidate (meaning A) σ (formulas old)) (look (part σ 0)) (look (part σ 12))
     shows = positive.reach_shows (meaning A) (meaning B) (bounded A) (bounded B) (flags rigid) is sa sb σ (formulas old) n.reached o
@@ -69,7 +69,5 @@ module _ (A B : Rule) (rigid : List Bool) (is : FlagsAre rigid (rigid? (meaning 
       facts = λ x i. record { few = small_all x i; fact = shows.facts (formula_of x) (subst (In (formula_of x)) here (in_map formula_of x F i)) };
       first = λ v u. subst (λ z. Ground (look z v)) (sym f.first_rule) (look_ground σ n.reached.ground 0 v);
       second = λ v u. subst (λ z. Ground (look z v)) (sym f.second_rule) (look_ground σ n.reached.ground 12 v);
-      shows = subst (λ z. ShowsReliance (meaning A) (meaning B) z (look s.first_rule) (look s.second_rule)) (sym here)
-          (subst (λ z. ShowsReliance (meaning A) (meaning B) (candidate (meaning A) σ (formulas old)) z (look s.second_rule)) (ap look (sym f.first_rule))
-          (subst (λ z. ShowsReliance (meaning A) (meaning B) (candidate (meaning A) σ (formulas old)) (look (part σ 0)) z) (ap look (sym f.second_rule)) shows));
+      shows = subst (λ (t : Type 0). t) (λ i. ShowsReliance (meaning A) (meaning B) (sym here i) (look (sym f.first_rule i)) (look (sym f.second_rule i))) shows;
     }

@@ -1,6 +1,6 @@
 -- What the code of the search for a positive reliance finds at a node, in terms of the node.
 -- Assumes nothing.
-use Rattle.std.proofs.Common.{◌≡◌, ℕ, ◌+◌, ◌-◌, Bool, not, List, ◌++◌, map, length, take, Decides, sym, ap, ◌∙◌, subst, arith}
+use Rattle.std.proofs.Common.{◌≡◌, Bool, not, List, ◌++◌, map, Decides, sym, ap, ◌∙◌, subst}
 use Rattle.std.proofs.lemmas.Bool.Decides.{Decides-like, Decides-not}
 use Rattle.std.proofs.lemmas.List.{map-append}
 use Rattle.rules.specs.declared.Term.{Term}
@@ -14,56 +14,39 @@ use Rattle.rules.specs.Rules.{meaning}
 use Rattle.matches.specs.Lists.{look, formulas, under_atom}
 use Rattle.reliances.specs.Unification.{Subst, flags, part, candidate, HasRigid}
 use Rattle.reliances.specs.PositiveSearch.{Open}
-use Rattle.reliances.proofs.Putting.{all_under}
+use Rattle.reliances.proofs.Laying.{all_under, along}
 
 module _ (A B : Rule) (rigid : List Bool) (σ : Subst) (old : List Atom) where
   abbrev C : List Formula
   C = candidate (meaning A) σ (formulas old)
 
-  -- what is written for the node
-  abbrev pub Written : ℕ → List Atom → Type 0
-  Written n all = take n all ≡ map (under_atom (look (part σ 0))) (body_of A.parts) ++ map (under_atom (look (part σ 12))) old
+  -- what is listed for the node
+  abbrev pub Listed : List Atom → Type 0
+  Listed all = all ≡ map (under_atom (look (part σ 0))) (body_of A.parts) ++ map (under_atom (look (part σ 12))) old
 
-  pub listed : (n : ℕ) (all : List Atom) → Written n all → formulas (take n all) ≡ C
-  listed n all e =
+  pub listed : (all : List Atom) → Listed all → formulas all ≡ C
+  listed all e =
       ap formulas e ∙ map-append formula_of (map (under_atom (look (part σ 0))) (body_of A.parts)) (map (under_atom (look (part σ 12))) old)
       ∙ (λ i. all_under (look (part σ 0)) (body_of A.parts) i ++ all_under (look (part σ 12)) old i)
 
-  pub listed_part : (n : ℕ) (all : List Atom) → Written n all → formulas (take (n - 0) all) ≡ C
-  listed_part n all e = ap (λ m. formulas (take m all)) (let z : n - 0 ≡ n = omega arith in z) ∙ listed n all e
-
-  pub resulted : (n : ℕ) (all after head : List Atom) (h : List Term) → Written n all → head ≡ head_of A.parts → h ≡ part σ 0
-      → take (n + length head) after ≡ take n all ++ map (under_atom (look h)) head
-      → formulas (take (n + length head - 0) after) ≡ result (meaning A) (look (part σ 0)) C
-  resulted n all after head h e p q f =
-      ap (λ m. formulas (take m after)) (let z : n + length head - 0 ≡ n + length head = omega arith in z)
-      ∙ ap formulas f ∙ map-append formula_of (take n all) (map (under_atom (look h)) head)
-      ∙ (λ i. listed n all e i ++ all_under (look h) head i) ∙ (λ i. C ++ map (under (look (q i))) (formulas (p i)))
+  pub resulted : (all after head : List Atom) (h : List Term) → Listed all → head ≡ head_of A.parts → h ≡ part σ 0 → after ≡ all ++ map (under_atom (look h)) head
+      → formulas after ≡ result (meaning A) (look (part σ 0)) C
+  resulted all after head h e p q f =
+      ap formulas f ∙ map-append formula_of all (map (under_atom (look h)) head)
+      ∙ (λ i. listed all e i ++ all_under (look h) head i) ∙ (λ i. C ++ map (under (look (q i))) (formulas (p i)))
 
   abbrev OpenHere : Type 0
   OpenHere = Open (meaning A) (meaning B) (flags rigid) σ (formulas old)
 
   module _ (h k : List Term) (F : List Formula) (q : h ≡ part σ 0) (p : k ≡ part σ 12) (e : F ≡ C) where
-    first_here : Satisfied (meaning A) (look h) F → Satisfied (meaning A) (look (part σ 0)) C
-    first_here s = subst (λ z. Satisfied (meaning A) (look (part σ 0)) z) e (subst (λ z. Satisfied (meaning A) (look z) F) q s)
-
-    first_there : Satisfied (meaning A) (look (part σ 0)) C → Satisfied (meaning A) (look h) F
-    first_there s = subst (λ z. Satisfied (meaning A) (look z) F) (sym q) (subst (λ z. Satisfied (meaning A) (look (part σ 0)) z) (sym e) s)
-
-    match_here : Match (meaning B) (look k) F → Match (meaning B) (look (part σ 12)) C
-    match_here s = subst (λ z. Match (meaning B) (look (part σ 12)) z) e (subst (λ z. Match (meaning B) (look z) F) p s)
-
-    match_there : Match (meaning B) (look (part σ 12)) C → Match (meaning B) (look k) F
-    match_there s = subst (λ z. Match (meaning B) (look z) F) (sym p) (subst (λ z. Match (meaning B) (look (part σ 12)) z) (sym e) s)
-
     pub rigid_shut : HasRigid (flags rigid) F → OpenHere → ⊥
     rigid_shut z o = o.spare z.0 z.1 (subst (Stands (Null z.0)) e z.2)
 
     pub first_shut : Satisfied (meaning A) (look h) F → OpenHere → ⊥
-    first_shut s o = o.first (first_here s)
+    first_shut s o = o.first (along (Satisfied (meaning A)) h (part σ 0) F C q e s)
 
     pub new_shut : Match (meaning B) (look k) F → OpenHere → ⊥
-    new_shut s o = o.new (match_here s)
+    new_shut s o = o.new (along (Match (meaning B)) k (part σ 12) F C p e s)
 
     abbrev G : List Formula
     G = result (meaning A) (look (part σ 0)) C
@@ -75,9 +58,9 @@ module _ (A B : Rule) (rigid : List Bool) (σ : Subst) (old : List Atom) where
         Decides-like (not r)
         (λ u. record {
           spare = λ n x i. spare (n, x, subst (Stands (Null n)) (sym e) i);
-          first = λ s. first (first_there s);
-          second = λ s. u (subst (λ z. Satisfied (meaning B) (look z) H) (sym p) (subst (λ z. Satisfied (meaning B) (look (part σ 12)) z) (sym g) s));
-          new = λ s. new (match_there s);
+          first = λ s. first (along (Satisfied (meaning A)) (part σ 0) h C F (sym q) (sym e) s);
+          second = λ s. u (along (Satisfied (meaning B)) (part σ 12) k G H (sym p) (sym g) s);
+          new = λ s. new (along (Match (meaning B)) (part σ 12) k C F (sym p) (sym e) s);
         })
-        (λ o s. o.second (subst (λ z. Satisfied (meaning B) (look (part σ 12)) z) g (subst (λ z. Satisfied (meaning B) (look z) H) p s)))
+        (λ o s. o.second (along (Satisfied (meaning B)) k (part σ 12) H G p g s))
         (Decides-not r d)

@@ -1,7 +1,7 @@
 -- The search for restraint: a witness that follows it to a node follows it to one of the children, also where the null of a
 -- slot is made one that the application gave; and what is open at the end, with no alternative too early, shows the restraint.
 -- Assumes nothing.
-use Rattle.std.proofs.Common.{◌≡◌, ℕ, zero, suc, ◌+◌, ◌-◌, ◌<◌, ◌≤◌, Bool, true, false, cond, ◌&&◌, ltb, ◌⊎◌, List, [], ◌∷◌, ◌++◌, map, length, Decides, sym, refl, ap, ◌∙◌, subst, inl, inr, ⊎_elim, zero-add, arith}
+use Rattle.std.proofs.Common.{◌≡◌, ℕ, zero, suc, ◌+◌, ◌-◌, ◌<◌, ◌≤◌, Bool, true, false, cond, ◌&&◌, ltb, ◌⊎◌, List, [], ◌∷◌, ◌++◌, map, length, Decides, sym, refl, ap, ◌∙◌, subst, inl, inr, ⊎_elim, zero-add, arith, Some}
 use Rattle.std.proofs.lemmas.List.{length-map}
 use Rattle.std.proofs.lemmas.Bool.Decides.{Decides-and}
 use Rattle.std.proofs.lemmas.Bool.{cond-true, cond-false, lt-ltb, le-ltb, cases_Bool, cases_lt, not_from_false, not_from_true}
@@ -201,7 +201,7 @@ module _ (A B : Implication) (ba : Bounded A) (bb : Bounded B) (rigid : ℕ → 
   reach_old = reaching.reach_old A.head Heads slots_a slots_b rigid
 
   pub reach_new : (σ τ : Subst) (old : List Formula) (b : Formula) (rest : List Formula) (a : Formula) → In a A.head
-      → unify_formulas rigid 0 12 a b σ ≡ τ ∷ [] → ReachedHere σ old (b ∷ rest) → ReachedHere τ old rest
+      → unify_formulas rigid 0 12 a b σ ≡ Some τ → ReachedHere σ old (b ∷ rest) → ReachedHere τ old rest
   reach_new = reaching.reach_new A.head Heads slots_a slots_b rigid
 
   pub reach_moved : (σ : Subst) (old rest : List Formula) (r v : ℕ) → rigid r ≡ false → Existential B v → ReachedHere σ old rest → ReachedHere (moved r v σ) old rest
@@ -460,7 +460,7 @@ module _ (A B : Implication) (ba : Bounded A) (bb : Bounded B) (rigid : ℕ → 
     third_under b i = under_shift B (slot θ 12) b ∙ under_same (λ v. θ (12 + shift_var B v)) k b (λ v j. third_at v (in_terms (Variable v) b B.head i j))
 
     abbrev Child : Formula → Type 0
-    Child b = (a : Formula) × In a A.head × ((τ : Subst) × (unify_formulas rigid 0 12 a b σ ≡ τ ∷ []) × Followed A B rigid τ old)
+    Child b = (a : Formula) × In a A.head × ((τ : Subst) × (unify_formulas rigid 0 12 a b σ ≡ Some τ) × Followed A B rigid τ old)
 
     split_at : (b : Formula) → In b Heads → Followed A B rigid σ (old ++ (b ∷ [])) ⊎ Child b
     split_at b i =
@@ -656,7 +656,7 @@ module _ (A B : Implication) (ba : Bounded A) (bb : Bounded B) (rigid : ℕ → 
 
   -- an atom of B's head, as the alternative reads it, is old, or unified with an atom of A's head
   pub follow_split : (σ : Subst) (old : List Formula) (b : Formula) → In b (map (shift_formula B) B.head) → Followed A B rigid σ old
-      → Followed A B rigid σ (old ++ (b ∷ [])) ⊎ ((a : Formula) × In a A.head × ((τ : Subst) × (unify_formulas rigid 0 12 a b σ ≡ τ ∷ []) × Followed A B rigid τ old))
+      → Followed A B rigid σ (old ++ (b ∷ [])) ⊎ ((a : Formula) × In a A.head × ((τ : Subst) × (unify_formulas rigid 0 12 a b σ ≡ Some τ) × Followed A B rigid τ old))
   follow_split σ old b i w = split_at σ old w b i
 
   pub follow_open : (σ : Subst) (old : List Formula) → Each (λ o. In o (map (shift_formula B) B.head)) old → Followed A B rigid σ old → Open A B σ old

@@ -76,9 +76,6 @@ module _ (A B : Rule) (rigid : List Bool) (is : FlagsAre rigid (rigid_both (mean
           let q : length (shifted (meaning B)) ≡ length head = length-map (meaning B).head _ ∙ length-map (head_of B.parts) formula_of ∙ ap length (sym e) in
           omega arith
 
-  pub fewer_old : (head rest : List Atom) → Node (meaning A).head (shifted (meaning B)) rigid σ old rest → head ≡ head_of B.parts → length head ≤ 4 → length old + length rest < length head → length old ≤ 3
-  fewer_old head rest n e l m = omega arith
-
   -- what the end of a way shows
   module _ (sa : Sizes (meaning A)) (sb : Sizes (meaning B)) (s : Sheet) (n : NodeHere σ []) (o : OpenHere) (none : (k : Assignment) → Alternative (meaning B) (look (part σ 12)) (later_of (meaning A) (meaning B) σ (formulas old)) k → ⊥) (f : IsFound A B rigid σ old s) where
     abbrev F : List Atom
@@ -121,10 +118,8 @@ module _ (A B : Rule) (rigid : List Bool) (is : FlagsAre rigid (rigid_both (mean
 
     all_shows : ShowsRestraint (meaning A) (meaning B) (formulas F) (later_facts (meaning B) s) (look s.first_rule) (look s.second_rule) (look s.alternative)
     all_shows =
-        subst (λ z. ShowsRestraint (meaning A) (meaning B) z (later_facts (meaning B) s) (look s.first_rule) (look s.second_rule) (look s.alternative)) (sym before_here)
-        (subst (λ z. ShowsRestraint (meaning A) (meaning B) (before_of (meaning B) σ) z (look s.first_rule) (look s.second_rule) (look s.alternative)) (sym later_here)
-        (subst (λ z. ShowsRestraint (meaning A) (meaning B) (before_of (meaning B) σ) (later_of (meaning A) (meaning B) σ (formulas old)) z (look s.second_rule) (look s.alternative)) (ap look (sym f.first_rule))
-        (subst (λ z. ShowsRestraint (meaning A) (meaning B) (before_of (meaning B) σ) (later_of (meaning A) (meaning B) σ (formulas old)) (look (part σ 0)) z (look s.alternative)) (ap look (sym f.second_rule)) shows)))
+        subst (λ (t : Type 0). t)
+        (λ i. ShowsRestraint (meaning A) (meaning B) (sym before_here i) (sym later_here i) (look (sym f.first_rule i)) (look (sym f.second_rule i)) (look s.alternative)) shows
 
     pub found_shows : ShowsRestrained (meaning A) (meaning B) s
     found_shows = record {
@@ -180,7 +175,7 @@ module _ (A B : Rule) (rigid : List Bool) (is : FlagsAre rigid (rigid_both (mean
             (sym (ap (λ q. look q v) p ∙ restraint.reach_null (meaning A) (meaning B) (bounded A) (bounded B) (flags rigid) is σ (formulas old) [] n.reached v early.given)) i)
 
   -- a slot that is no choice needs no trying
-  pub no_choice : (v i : ℕ) (F : List Formula) (t : Term) → (IsChoice rigid σ i F t → ⊥) → Each (Refuted A B rigid σ old v F) (take i σ) → Refuted A B rigid σ old v F t
+  pub no_choice : (v i : ℕ) (F : List Formula) (t : Term) → (IsChoice rigid (take i σ) F t → ⊥) → Each (Refuted A B rigid σ old v F) (take i σ) → Refuted A B rigid σ old v F t
   no_choice v i F t no_way tried r e flex stand =
       ⊎_elim
       (λ j. tried t j r e flex stand)

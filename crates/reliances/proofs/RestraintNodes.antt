@@ -1,9 +1,11 @@
 -- What the code of the search for a restraint finds at a node, in terms of the node.
 -- Assumes nothing.
-use Rattle.std.proofs.Common.{◌≡◌, ℕ, ◌+◌, ◌-◌, ◌<◌, ◌≤◌, Bool, true, false, ltb, List, [], ◌∷◌, ◌++◌, map, length, take, Decides, sym, refl, ap, ◌∙◌, subst, ⊎_elim, arith}
+use Rattle.std.proofs.Common.{◌≡◌, ℕ, ◌+◌, ◌-◌, ◌<◌, ◌≤◌, Bool, true, false, ltb, List, [], ◌∷◌, ◌++◌, map, length, get_or, take, Decides, MatchBool, sym, refl, ap, ◌∙◌, subst, ⊎_elim, arith}
 use Rattle.std.proofs.lemmas.Bool.Decides.{Decides-like}
 use Rattle.std.proofs.lemmas.Bool.{cases_lt, lt-ltb, le-ltb}
-use Rattle.std.proofs.lemmas.List.{map-append, length-map, length-append, append_assoc, get_or-take, take-map, length-take}
+use Rattle.std.proofs.lemmas.List.{map-append, length-map, append_assoc, get_or-take, take-map, length-take}
+use Rattle.std.proofs.lemmas.List.FromFn.{get_or-range_with_len}
+use Rattle.std.specs.List.{HoldsAt, AllWithin, range_with_len}
 use Rattle.rules.specs.declared.Term.{Term}
 use Rattle.rules.specs.declared.Term.TheVariants.{Constant, Variable, Null}
 use Rattle.rules.specs.declared.Atom.{Atom}
@@ -12,16 +14,16 @@ use Rattle.rules.specs.Logic.{Formula, formula_of, Existential}
 use Rattle.rules.specs.Bounds.{body_of, head_of}
 use Rattle.rules.specs.Matches.{Assignment, Stands, under, Satisfied, result}
 use Rattle.rules.specs.Rules.{meaning}
-use Rattle.rules.proofs.Membership.{in_left}
+use Rattle.rules.proofs.Membership.{in_left, decides_false}
 use Rattle.matches.specs.Lists.{look, formulas, under_atom}
 use Rattle.matches.proofs.Basics.{in_terms, from_terms, map_same}
 use Rattle.matches.proofs.Bounded.{bounded}
 use Rattle.reliances.specs.Unification.{Subst, flags, rigid?, rigid_both, FlagsAre, part, wide, shift_term, shift_formula, other, before_of, extra_of, later_of, HasRigid}
-use Rattle.reliances.specs.RestraintSearch.{shift_by, shift_atom, laid_before, laid_extra, laid_later, SomeSpared, Marks, Open}
+use Rattle.reliances.specs.RestraintSearch.{shift_by, shift_atom, laid_before, laid_extra, laid_later, SomeSpared, Open}
 use Rattle.reliances.proofs.Unify.{elim_true, elim_false}
 use Rattle.reliances.proofs.Slots.{decides_rigid}
 use Rattle.matches.proofs.Steps.{of_under}
-use Rattle.reliances.proofs.Putting.{all_under}
+use Rattle.reliances.proofs.Laying.{all_under, along}
 use Rattle.reliances.proofs.Nodes.{flag_below}
 use Rattle.reliances.proofs.Restraint as restraint
 
@@ -31,12 +33,29 @@ take_first [] [] = refl
 take_first [] (y ∷ ys) = refl
 take_first (x ∷ xs) ys = ap (λ z. x ∷ z) (take_first xs ys)
 
--- a head that was put at the start of an array, as h says
-pub given_is : (B : Rule) (h : Assignment) (head into : List Atom) → head ≡ head_of B.parts → take (0 + length head) into ≡ map (under_atom h) head
-    → formulas (take (length head - 0) into) ≡ map (under h) (meaning B).head
-given_is B h head into p e =
-    ap (λ n. formulas (take n into)) (let z : length head - 0 ≡ 0 + length head = omega arith in z) ∙ ap formulas e ∙ all_under h head
-    ∙ ap (λ z. map (under h) (formulas z)) p
+-- what h makes of a head
+pub given_is : (B : Rule) (h : Assignment) (head given : List Atom) → head ≡ head_of B.parts → given ≡ map (under_atom h) head → formulas given ≡ map (under h) (meaning B).head
+given_is B h head given p e = ap formulas e ∙ all_under h head ∙ ap (λ z. map (under h) (formulas z)) p
+
+-- the rigid slots of B, tried one after the other
+module _ (rigid : List Bool) (F : List Formula) where
+  abbrev pub Spared : ℕ → Type 0
+  Spared r = (flags rigid r ≡ true) × (Stands (Null r) F → ⊥)
+
+  abbrev pub Present : ℕ → Type 0
+  Present r = flags rigid r ≡ true → Stands (Null r) F
+
+  pub spared_decided : length rigid ≡ 36 → (r : Bool)
+      → MatchBool r ((k : ℕ) × (k < 24) × HoldsAt Spared (range_with_len 12 24) k) (AllWithin Present (range_with_len 12 24) 0 24)
+      → Decides r (SomeSpared rigid F)
+  spared_decided long true z =
+      let s = subst Spared (get_or-range_with_len 12 24 z.0 0 z.1) (z.2 0) in
+      ((λ e. (12 + z.0, omega arith, s.0, s.1)), λ e. refl)
+  spared_decided long false z =
+      decides_false (λ w.
+      let below : w.0 - 12 < 24 = (let l = flag_below rigid w.0 w.2 in omega (arith, w.1)) in
+      let same : get_or (range_with_len 12 24) (w.0 - 12) 0 ≡ w.0 = get_or-range_with_len 12 24 (w.0 - 12) 0 below ∙ (let e : 12 + (w.0 - 12) ≡ w.0 = omega (arith, w.1) in e) in
+      w.3 (subst Present same (z (w.0 - 12) 0 (omega arith) below) w.2))
 
 module _ (A B : Rule) (σ : Subst) (old : List Atom) where
   abbrev C : List Formula
@@ -63,17 +82,9 @@ module _ (A B : Rule) (σ : Subst) (old : List Atom) where
     before-length = length-map (body_of B.parts) (under_atom (look (part σ 12))) ∙ ap length (sym p)
 
     -- the body's facts are the first of the list
-    pub enough : length body ≤ length list
-    enough =
-        let e : length list ≡ length (laid_later A B σ old) = ap length laid in
-        let f = length-append (laid_before B σ ++ map (under_atom (look (part σ 12))) (head_of B.parts)) (laid_extra A σ old) in
-        let g = length-append (laid_before B σ) (map (under_atom (look (part σ 12))) (head_of B.parts)) in
-        let h = before-length in
-        omega arith
-
-    pub before_is : formulas (take (length body - 0) list) ≡ C
+    pub before_is : formulas (take (length body) list) ≡ C
     before_is =
-        ap (λ n. formulas (take n list)) (let e : length body - 0 ≡ length (laid_before B σ) = (let f = before-length in omega arith) in e)
+        ap (λ n. formulas (take n list)) (sym before-length)
         ∙ ap (λ z. formulas (take (length (laid_before B σ)) z)) (laid ∙ append_assoc (laid_before B σ) (map (under_atom (look (part σ 12))) (head_of B.parts)) (laid_extra A σ old))
         ∙ ap formulas (take_first (laid_before B σ) (map (under_atom (look (part σ 12))) (head_of B.parts) ++ laid_extra A σ old)) ∙ laid_before_lem
 
@@ -90,7 +101,7 @@ module _ (A B : Rule) (σ : Subst) (old : List Atom) where
         let back : 12 + v - 12 ≡ v = omega arith in
         is (12 + v) ∙ elim_false (ltb (12 + v) 12) (rigid? (meaning A) (12 + v)) (rigid? (meaning B) (12 + v - 12)) (le-ltb (12 + v) 12 le) ∙ ap (rigid? (meaning B)) back
 
-    pub marks : Marks (meaning B) rigid
+    marks : (v : ℕ) → Existential (meaning B) v → flags rigid (12 + v) ≡ true
     marks v x = flag_second v ∙ (decides_rigid (meaning B) v).1 x
 
     pub shift_term_lem : (t : Term) → shift_by rigid t ≡ shift_term (meaning B) t
@@ -119,11 +130,10 @@ module _ (A B : Rule) (σ : Subst) (old : List Atom) where
     abbrev pub O : List Formula
     O = map (under (other (meaning B) σ)) (meaning B).head
 
-    pub other_is : (head into : List Atom) (w : List Term) → head ≡ head_of B.parts → w ≡ wide σ
-        → take (0 + length head) into ≡ map (λ a. under_atom (look w) (shift_atom rigid a)) head → formulas (take (length head - 0) into) ≡ O
-    other_is head into w p q e =
-        ap (λ n. formulas (take n into)) (let z : length head - 0 ≡ 0 + length head = omega arith in z) ∙ ap formulas e
-        ∙ (λ i. formulas (map (λ a. under_atom (look (q i)) (shift_atom rigid a)) (p i))) ∙ other_atoms (head_of B.parts)
+    pub other_is : (head others : List Atom) (w : List Term) → head ≡ head_of B.parts → w ≡ wide σ
+        → others ≡ map (λ a. under_atom (look w) (shift_atom rigid a)) head → formulas others ≡ O
+    other_is head others w p q e =
+        ap formulas e ∙ (λ i. formulas (map (λ a. under_atom (look (q i)) (shift_atom rigid a)) (p i))) ∙ other_atoms (head_of B.parts)
 
     before_stands : (t : Term) → Stands t C → Stands t D
     before_stands t i =
@@ -151,18 +161,6 @@ module _ (A B : Rule) (σ : Subst) (old : List Atom) where
     OpenHere = Open (meaning A) (meaning B) σ (formulas old)
 
     module _ (h k : List Term) (F H T : List Formula) (q : h ≡ part σ 0) (p : k ≡ part σ 12) (e : F ≡ C) (d : H ≡ D) (o : T ≡ O) where
-      second_here : Satisfied (meaning B) (look k) F → Satisfied (meaning B) (look (part σ 12)) C
-      second_here s = subst (λ z. Satisfied (meaning B) (look (part σ 12)) z) e (subst (λ z. Satisfied (meaning B) (look z) F) p s)
-
-      second_there : Satisfied (meaning B) (look (part σ 12)) C → Satisfied (meaning B) (look k) F
-      second_there s = subst (λ z. Satisfied (meaning B) (look z) F) (sym p) (subst (λ z. Satisfied (meaning B) (look (part σ 12)) z) (sym e) s)
-
-      first_here : Satisfied (meaning A) (look h) H → Satisfied (meaning A) (look (part σ 0)) D
-      first_here s = subst (λ z. Satisfied (meaning A) (look (part σ 0)) z) d (subst (λ z. Satisfied (meaning A) (look z) H) q s)
-
-      first_there : Satisfied (meaning A) (look (part σ 0)) D → Satisfied (meaning A) (look h) H
-      first_there s = subst (λ z. Satisfied (meaning A) (look z) H) (sym q) (subst (λ z. Satisfied (meaning A) (look (part σ 0)) z) (sym d) s)
-
       pub rigid_shut : HasRigid (flags rigid) F → OpenHere → ⊥
       rigid_shut z w =
           ⊎_elim
@@ -174,7 +172,7 @@ module _ (A B : Rule) (σ : Subst) (old : List Atom) where
           (cases_lt z.0 12)
 
       pub second_shut : Satisfied (meaning B) (look k) F → OpenHere → ⊥
-      second_shut s w = w.second (second_here s)
+      second_shut s w = w.second (along (Satisfied (meaning B)) k (part σ 12) F C p e s)
 
       pub firsts_shut : HasRigid (flags firsts) H → OpenHere → ⊥
       firsts_shut z w =
@@ -182,7 +180,7 @@ module _ (A B : Rule) (σ : Subst) (old : List Atom) where
           w.spare_first z.0 (rigid_first_is z.0 l (sym (get_or-take 12 rigid z.0 false l) ∙ z.1)) (subst (Stands (Null z.0)) d z.2)
 
       pub first_shut : Satisfied (meaning A) (look h) H → OpenHere → ⊥
-      first_shut s w = w.first (first_here s)
+      first_shut s w = w.first (along (Satisfied (meaning A)) h (part σ 0) H D q d s)
 
       pub open_decided : (HasRigid (flags rigid) F → ⊥) → (Satisfied (meaning B) (look k) F → ⊥) → (HasRigid (flags firsts) H → ⊥) → (Satisfied (meaning A) (look h) H → ⊥)
           → (r : Bool) → Decides r (SomeSpared rigid T) → Decides r OpenHere
@@ -190,11 +188,11 @@ module _ (A B : Rule) (σ : Subst) (old : List Atom) where
           Decides-like r
           (λ z. record {
             spare_second = λ v x i. spare (12 + v, marks v x, subst (Stands (Null (12 + v))) (sym e) i);
-            second = λ s. second (second_there s);
+            second = λ s. second (along (Satisfied (meaning B)) (part σ 12) k C F (sym p) (sym e) s);
             spare_first = λ v x i.
                 let l : v < 12 = (bounded A).head (Variable v) x.0 in
                 firsts-spare (v, get_or-take 12 rigid v false l ∙ flag_first v l ∙ (decides_rigid (meaning A) v).1 x, subst (Stands (Null v)) (sym d) i);
-            first = λ s. first (first_there s);
+            first = λ s. first (along (Satisfied (meaning A)) (part σ 0) h D H (sym q) (sym d) s);
             spared =
                 let same : z.0 ≡ 12 + (z.0 - 12) = (let l = z.1 in omega arith) in
                 (z.0 - 12, rigid_second_is (z.0 - 12) (ap (flags rigid) (sym same) ∙ z.2), λ i. z.3 (subst (λ n. Stands (Null n) T) (sym same) (subst (Stands (Null (12 + (z.0 - 12)))) (sym o) i)));

@@ -1,14 +1,15 @@
 -- From node to node of either search, by its kind, and what is known after all heads were tried.
 -- Assumes nothing.
-use Rattle.std.proofs.Common.{◌≡◌, ℕ, ◌+◌, ◌<◌, Bool, true, false, ◌⊎◌, List, [], ◌∷◌, ◌++◌, length, get_or, take, drop, set, Decides, sym, refl, ap, ◌∙◌, subst, ⊎_elim}
+use Rattle.std.proofs.Common.{◌≡◌, ℕ, ◌<◌, Bool, true, ◌⊎◌, ◌↔◌, List, [], ◌∷◌, ◌++◌, length, get_or, Option, Some, None, IsSome, sym, refl, ap, ◌∙◌, subst, inl, ⊎_elim}
 use Rattle.std.proofs.lemmas.List.{map-append}
+use Rattle.std.proofs.lemmas.Bool.{false≢true}
+use Rattle.std.proofs.lemmas.Option.{none-some}
 use Rattle.rules.specs.declared.Term.TheVariants.{Null}
 use Rattle.rules.specs.declared.Atom.{Atom}
 use Rattle.rules.specs.declared.rule.Rule.{Rule}
 use Rattle.rules.specs.Logic.{In, Each, Formula, formula_of}
 use Rattle.rules.specs.Bounds.{head_of}
 use Rattle.rules.specs.Rules.{meaning}
-use Rattle.rules.proofs.Membership.{decides_false}
 use Rattle.matches.specs.Lists.{look, formulas}
 use Rattle.matches.proofs.Basics.{in_map, from_map}
 use Rattle.matches.proofs.Bounded.{bounded}
@@ -17,10 +18,10 @@ use Rattle.reliances.specs.declared.sheet.Kind.TheVariants.{Positive, Restraint}
 use Rattle.reliances.specs.declared.sheet.Sheet.{Sheet}
 use Rattle.reliances.specs.Unification.{Subst, start, unify_formulas, flags, FlagsAre}
 use Rattle.reliances.specs.Following.{Small, Node}
-use Rattle.reliances.specs.Sheets.{first_list, later_facts, Shows, Holds, Filed}
+use Rattle.reliances.specs.Sheets.{first_list, later_facts, Shows, Holds}
 use Rattle.reliances.specs.Searching.{gone, rigid_for, Follows, Deserted, Searched}
-use Rattle.reliances.proofs.Unify.{Slotted}
-use Rattle.reliances.proofs.Nodes.{no_atom, node_start, old_node, new_node, first_in, get_d_in}
+use Rattle.reliances.proofs.Unify.{Slotted, some_same}
+use Rattle.reliances.proofs.Nodes.{no_atom, node_start, node_old, node_new, get_d_in}
 use Rattle.reliances.proofs.Positive as positive
 use Rattle.reliances.proofs.Restraint as restraint
 
@@ -46,7 +47,7 @@ follow_start Restraint A B rigid is = restraint.follow_start (meaning A) (meanin
 follow_split : (kind : Kind) (A B : Rule) (rigid : List Bool) → Flagged kind A B rigid → (σ : Subst) (old : List Formula) (b : Formula) → In b (gone kind (meaning B))
     → Follows kind (meaning A) (meaning B) (flags rigid) σ old
     → Follows kind (meaning A) (meaning B) (flags rigid) σ (old ++ (b ∷ []))
-    ⊎ ((a : Formula) × In a (meaning A).head × ((τ : Subst) × (unify_formulas (flags rigid) 0 12 a b σ ≡ τ ∷ []) × Follows kind (meaning A) (meaning B) (flags rigid) τ old))
+    ⊎ ((a : Formula) × In a (meaning A).head × ((τ : Subst) × (unify_formulas (flags rigid) 0 12 a b σ ≡ Some τ) × Follows kind (meaning A) (meaning B) (flags rigid) τ old))
 follow_split Positive A B rigid is = positive.follow_split (meaning A) (meaning B) (bounded A) (bounded B) (flags rigid) is
 follow_split Restraint A B rigid is = restraint.follow_split (meaning A) (meaning B) (bounded A) (bounded B) (flags rigid) is
 
@@ -64,11 +65,19 @@ shows_holds Restraint A B s w = record {
 
 -- the head atom a is not what the atom b is
 abbrev pub NotJoined : Kind → Rule → Rule → List Bool → Subst → List Atom → Atom → Atom → Type 0
-NotJoined kind A B rigid σ old b a = (τ : Subst) → unify_formulas (flags rigid) 0 12 (formula_of a) (formula_of b) σ ≡ τ ∷ [] → Deserted kind A B rigid τ old
+NotJoined kind A B rigid σ old b a = (τ : Subst) → unify_formulas (flags rigid) 0 12 (formula_of a) (formula_of b) σ ≡ Some τ → Deserted kind A B rigid τ old
 
 module _ (kind : Kind) (A B : Rule) (rigid : List Bool) (is : Flagged kind A B rigid) (σ : Subst) where
   abbrev NodeHere : Subst → List Atom → List Atom → Type 0
   NodeHere = Node (meaning A).head (gone kind (meaning B)) rigid
+
+  -- a head atom that was tried
+  module _ (old : List Atom) (b a : Atom) where
+    pub not_unified : None ≡ unify_formulas (flags rigid) 0 12 (formula_of a) (formula_of b) σ → NotJoined kind A B rigid σ old b a
+    not_unified n τ e = absurd (none-some τ (n ∙ e))
+
+    pub not_followed : (τ : Subst) → Some τ ≡ unify_formulas (flags rigid) 0 12 (formula_of a) (formula_of b) σ → Deserted kind A B rigid τ old → NotJoined kind A B rigid σ old b a
+    not_followed τ u left other e f = left (subst (λ z. Follows kind (meaning A) (meaning B) (flags rigid) z (formulas old)) (some_same (sym (u ∙ e))) f)
 
   -- after all heads were tried, and the atom was left old
   none_follows : (old heads : List Atom) (b : Atom) → In (formula_of b) (gone kind (meaning B)) → heads ≡ head_of A.parts → Each (NotJoined kind A B rigid σ old b) heads
@@ -83,29 +92,26 @@ module _ (kind : Kind) (A B : Rule) (rigid : List Bool) (is : Flagged kind A B r
       (follow_split kind A B rigid is σ (formulas old) (formula_of b) i w)
 
   -- the next node, where the first of the atoms that remain is left old, or unified with a head
-  module _ (old rest : List Atom) (n : ℕ) (more : 0 < length rest) (node : NodeHere σ (take n old) rest) where
-    abbrev b : Atom
-    b = get_or rest 0 no_atom
-
-    pub next_old : n < length old → NodeHere σ (take (n + 1) (set old n b)) (drop 1 rest)
-    next_old l = old_node (meaning A).head (gone kind (meaning B)) (slots_heads kind A B rigid is) (slots_gone kind A B rigid is) rigid σ old n rest no_atom more node l
+  module _ (old rest : List Atom) (b : Atom) (node : NodeHere σ old (b ∷ rest)) where
+    pub next_old : (more : List Atom) → more ≡ old ++ (b ∷ []) → NodeHere σ more rest
+    next_old more m =
+        subst (λ z. NodeHere σ z rest) (sym m)
+        (node_old (meaning A).head (gone kind (meaning B)) (slots_heads kind A B rigid is) (slots_gone kind A B rigid is) rigid σ old b rest node)
 
     pub next_new : (τ : Subst) (heads : List Atom) (i : ℕ) → heads ≡ head_of A.parts → i < length heads
-        → unify_formulas (flags rigid) 0 12 (formula_of (get_or heads i no_atom)) (formula_of b) σ ≡ τ ∷ [] → NodeHere τ (take n old) (drop 1 rest)
+        → Some τ ≡ unify_formulas (flags rigid) 0 12 (formula_of (get_or heads i no_atom)) (formula_of b) σ → NodeHere τ old rest
     next_new τ heads i e l u =
-        new_node (meaning A).head (gone kind (meaning B)) (slots_heads kind A B rigid is) (slots_gone kind A B rigid is) rigid σ old n rest no_atom more node τ (formula_of (get_or heads i no_atom))
-        (in_map formula_of (get_or heads i no_atom) (head_of A.parts) (subst (In (get_or heads i no_atom)) e (get_d_in heads i no_atom l))) u
+        node_new (meaning A).head (gone kind (meaning B)) (slots_heads kind A B rigid is) (slots_gone kind A B rigid is) rigid σ τ old b rest (formula_of (get_or heads i no_atom))
+        (in_map formula_of (get_or heads i no_atom) (head_of A.parts) (subst (In (get_or heads i no_atom)) e (get_d_in heads i no_atom l))) (sym u) node
 
     pub next_in : In (formula_of b) (gone kind (meaning B))
-    next_in = first_in (meaning A).head (gone kind (meaning B)) (slots_heads kind A B rigid is) (slots_gone kind A B rigid is) rigid σ old n rest no_atom more node
+    next_in = node.reached.rest_from (formula_of b) (inl refl)
 
   -- an answer from the last child is one from the node
-  pub searched_old : (r : Bool) (old more heads : List Atom) (b : Atom) (S R T : Sheet) → In (formula_of b) (gone kind (meaning B)) → heads ≡ head_of A.parts
-      → Each (NotJoined kind A B rigid σ old b) heads → more ≡ old ++ (b ∷ []) → R ≡ S
-      → Searched r kind A B rigid σ more R T → Searched r kind A B rigid σ old S T
-  searched_old true old more heads b S R T i e tried m q s = s
-  searched_old false old more heads b S R T i e tried m q s =
-      (none_follows old heads b i e tried (subst (Deserted kind A B rigid σ) m s.0), s.1 ∙ q)
+  pub searched_old : (r : Option Sheet) (old more heads : List Atom) (b : Atom) → In (formula_of b) (gone kind (meaning B)) → heads ≡ head_of A.parts
+      → Each (NotJoined kind A B rigid σ old b) heads → more ≡ old ++ (b ∷ []) → Searched r kind A B rigid σ more → Searched r kind A B rigid σ old
+  searched_old (Some s) old more heads b i e tried m shows = shows
+  searched_old None old more heads b i e tried m left = none_follows old heads b i e tried (subst (Deserted kind A B rigid σ) m left)
 
 -- the search from the start on
 module _ (kind : Kind) (A B : Rule) (rigid : List Bool) (is : Flagged kind A B rigid) where
@@ -114,10 +120,6 @@ module _ (kind : Kind) (A B : Rule) (rigid : List Bool) (is : Flagged kind A B r
       subst (λ z. Node (meaning A).head (gone kind (meaning B)) rigid z [] atoms) (sym e)
       (node_start (meaning A).head (gone kind (meaning B)) (slots_heads kind A B rigid is) (slots_gone kind A B rigid is) rigid (start_keeps kind A B rigid is) atoms p small)
 
-  pub answered : (r : Bool) (σ : Subst) (S T : Sheet) → σ ≡ start → Searched r kind A B rigid σ [] S T → Decides r (Holds kind A B)
-  answered true σ S T e s = ((λ q. shows_holds kind A B T s), λ q. refl)
-  answered false σ S T e s = decides_false (λ w. s.0 (subst (λ z. Follows kind (meaning A) (meaning B) (flags rigid) z []) (sym e) (follow_start kind A B rigid is w)))
-
-  pub filed : (r : Bool) (σ : Subst) (S T : Sheet) → Searched r kind A B rigid σ [] S T → Filed kind A B r S T
-  filed true σ S T s = s
-  filed false σ S T s = s.1
+  pub answered : (r : Option Sheet) (σ : Subst) → σ ≡ start → Searched r kind A B rigid σ [] → IsSome r ↔ Holds kind A B
+  answered (Some s) σ e shows = (λ q. shows_holds kind A B s shows, λ q. refl)
+  answered None σ e left = (λ q. absurd (false≢true q), λ w. absurd (left (subst (λ z. Follows kind (meaning A) (meaning B) (flags rigid) z []) (sym e) (follow_start kind A B rigid is w))))

@@ -19,7 +19,7 @@ use Rattle.reliances.proofs.Unify.{AllGround}
 pub decides_rigid : (r : Implication) (v : ℕ) → Decides (rigid? r v) (Existential r v)
 decides_rigid r v = existential_decided r v
 
-look_numbered : (k n i : ℕ) → i < n → look (numbered k n) i ≡ Null (k + i)
+pub look_numbered : (k n i : ℕ) → i < n → look (numbered k n) i ≡ Null (k + i)
 look_numbered k zero i l = absurd (omega arith)
 look_numbered k (suc n) zero l = ap Null (let e : k ≡ k + 0 = omega arith in e)
 look_numbered k (suc n) (suc i) l = look_numbered (suc k) n i (omega arith) ∙ ap Null (let e : suc k + i ≡ k + suc i = omega arith in e)

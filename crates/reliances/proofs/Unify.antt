@@ -1,8 +1,10 @@
 -- Unification follows an actual witness θ: it cannot fail where θ makes both sides equal, and θ respects its result.
 -- What it gives makes both sides equal, whether there is a witness or not.
 -- Assumes nothing.
-use Rattle.std.proofs.Common.{◌≡◌, ℕ, ◌+◌, ◌<◌, ◌≤◌, Bool, true, false, eqb, ◌⊎◌, List, [], ◌∷◌, map, length, sym, refl, ap, ◌∙◌, subst, inl, inr, ⊎_elim, arith}
-use Rattle.std.proofs.lemmas.List.{get_or-map, get_or_past, length-map, append-nil}
+use Rattle.std.proofs.Common.{◌≡◌, ℕ, ◌+◌, ◌<◌, ◌≤◌, Bool, true, false, eqb, ◌⊎◌, List, [], ◌∷◌, map, length, Option, Some, None, sym, refl, ap, ◌∙◌, subst, inl, inr, ⊎_elim, arith}
+use Rattle.std.proofs.lemmas.List.{get_or-map, get_or_past, length-map}
+use Rattle.std.proofs.lemmas.Option.{none-some}
+use Rattle.std.specs.Option.{option_and_then}
 use Rattle.std.proofs.lemmas.Bool.{false≢true, both_ways, not-true, not-false, eq-eqb, eqb-true, cases_Bool, cases_lt, cond-true, cond-false}
 use Rattle.rules.specs.declared.Term.{Term}
 use Rattle.rules.specs.declared.Term.TheVariants.{Constant, Variable, Null}
@@ -13,7 +15,7 @@ use Rattle.matches.specs.Matching.{same}
 use Rattle.matches.proofs.Basics.{decides_same, either, heads_same, tails_same, nil-cons, cons_path, formula_path}
 use Rattle.matches.proofs.Bounded.{Within}
 use Rattle.reliances.specs.Following.{hat, slot, Good}
-use Rattle.reliances.specs.Unification.{each, Subst, through, replaced, flexible, unify, unify_all, unify_formulas}
+use Rattle.reliances.specs.Unification.{Subst, through, replaced, flexible, unify, unify_all, unify_formulas}
 
 -- a term that is read by slots from an offset up to 12 on
 abbrev pub Slotted : Term → Type 0
@@ -76,6 +78,10 @@ pub elim_false : {A : Type 0} (b : Bool) (x y : A) → b ≡ false → ◌≡◌
 elim_false true x y e = absurd (both_ways true e refl)
 elim_false false x y e = refl
 
+-- the value that is there
+pub some_same : {A : Type 0} {x y : A} → Some x ≡ Some y → x ≡ y
+some_same e = cc
+
 replaced_both : (s t : Term) → replaced s t s ≡ replaced s t t
 replaced_both s t = replaced_is s t s refl ∙ ⊎_elim (λ e. sym (replaced_is s t t e)) (λ n. sym (replaced_not s t t n)) (either (same t s) (decides_same t s))
 
@@ -98,9 +104,9 @@ look_replaced rigid s t σ i f =
     (cases_lt i (length σ))
 
 -- what unification comes to where it follows θ
-pub record Unified (θ : ℕ → Term) (rigid : ℕ → Bool) (l : List Subst) : Type 0 where
+pub record Unified (θ : ℕ → Term) (rigid : ℕ → Bool) (o : Option Subst) : Type 0 where
   pub to : Subst
-  pub gives : l ≡ to ∷ []
+  pub gives : o ≡ Some to
   pub good : Good θ rigid to
 
 module _ (θ : ℕ → Term) (rigid : ℕ → Bool) where
@@ -134,27 +140,27 @@ module _ (θ : ℕ → Term) (rigid : ℕ → Bool) where
   pub unify_works : (solid : Solid θ rigid) (σ : Subst) (s t : Term) → Good θ rigid σ → hat θ s ≡ hat θ t → Unified θ rigid (unify rigid σ s t)
   unify_works solid σ s t g e = ⊎_elim at_same at_other (cases_Bool (same s t))
     where
-      third : List Subst
-      third = elim (flexible rigid t) [ true ↦ map (replaced t s) σ ∷ [] | false ↦ [] ]
+      third : Option Subst
+      third = elim (flexible rigid t) [ true ↦ Some (map (replaced t s) σ) | false ↦ None ]
 
-      rest : List Subst
-      rest = elim (flexible rigid s) [ true ↦ map (replaced s t) σ ∷ [] | false ↦ third ]
+      rest : Option Subst
+      rest = elim (flexible rigid s) [ true ↦ Some (map (replaced s t) σ) | false ↦ third ]
 
       at_same : same s t ≡ true → Unified θ rigid (unify rigid σ s t)
-      at_same q = record { to = σ; gives = elim_true (same s t) (σ ∷ []) rest q; good = g }
+      at_same q = record { to = σ; gives = elim_true (same s t) (Some σ) rest q; good = g }
 
       at_right : same s t ≡ false → flexible rigid s ≡ false → flexible rigid t ≡ true → Unified θ rigid (unify rigid σ s t)
       at_right q f h = record {
         to = map (replaced t s) σ;
-        gives = elim_false (same s t) (σ ∷ []) rest q ∙ elim_false (flexible rigid s) ((map (replaced s t) σ) ∷ []) third f
-            ∙ elim_true (flexible rigid t) ((map (replaced t s) σ) ∷ []) [] h;
+        gives = elim_false (same s t) (Some σ) rest q ∙ elim_false (flexible rigid s) (Some (map (replaced s t) σ)) third f
+            ∙ elim_true (flexible rigid t) (Some (map (replaced t s) σ)) None h;
         good = good_replaced σ t s g h (sym e);
       }
 
       at_left : same s t ≡ false → flexible rigid s ≡ true → Unified θ rigid (unify rigid σ s t)
       at_left q f = record {
         to = map (replaced s t) σ;
-        gives = elim_false (same s t) (σ ∷ []) rest q ∙ elim_true (flexible rigid s) ((map (replaced s t) σ) ∷ []) third f;
+        gives = elim_false (same s t) (Some σ) rest q ∙ elim_true (flexible rigid s) (Some (map (replaced s t) σ)) third f;
         good = good_replaced σ s t g f e;
       }
 
@@ -182,7 +188,7 @@ module _ (θ : ℕ → Term) (rigid : ℕ → Bool) where
       let more = unify_all_works solid m n lm ln ss ts one.to (λ x i. u x (inr i)) (λ x i. w x (inr i)) one.good (tails_same e) in
       record {
         to = more.to;
-        gives = ap (each (λ τ. unify_all rigid m n ss ts τ)) one.gives ∙ append-nil (unify_all rigid m n ss ts one.to) ∙ more.gives;
+        gives = ap (option_and_then (λ τ. unify_all rigid m n ss ts τ)) one.gives ∙ more.gives;
         good = more.good;
       }
 
@@ -193,7 +199,7 @@ module _ (θ : ℕ → Term) (rigid : ℕ → Bool) where
       let r = unify_all_works solid m n lm ln a.terms b.terms σ u w g (ap (λ (x : Formula). x.terms) e) in
       record {
         to = r.to;
-        gives = elim_true (eqb a.predicate b.predicate) (unify_all rigid m n a.terms b.terms σ) [] (eq-eqb a.predicate b.predicate p) ∙ r.gives;
+        gives = elim_true (eqb a.predicate b.predicate) (unify_all rigid m n a.terms b.terms σ) None (eq-eqb a.predicate b.predicate p) ∙ r.gives;
         good = r.good;
       }
 
@@ -214,7 +220,7 @@ pub record Joins (rigid : ℕ → Bool) (σ τ : Subst) : Type 0 where
 -- what unification of two terms comes to, with no witness
 pub record Joined (rigid : ℕ → Bool) (σ : Subst) (s t : Term) : Type 0 where
   pub to : Subst
-  pub gives : unify rigid σ s t ≡ to ∷ []
+  pub gives : unify rigid σ s t ≡ Some to
   pub joins : Joins rigid σ to
   pub equal : joins.refines.by s ≡ joins.refines.by t
 
@@ -251,20 +257,20 @@ module _ (rigid : ℕ → Bool) where
     };
   }
 
-  unify_joined : (σ : Subst) (s t : Term) → Ground s → Ground t → (unify rigid σ s t ≡ []) ⊎ Joined rigid σ s t
+  unify_joined : (σ : Subst) (s t : Term) → Ground s → Ground t → (unify rigid σ s t ≡ None) ⊎ Joined rigid σ s t
   unfolding joins_self joins_replaced refines_self
   unify_joined σ s t gs gt = ⊎_elim (λ q. inr (at_same q)) at_other (cases_Bool (same s t))
     where
-      third : List Subst
-      third = elim (flexible rigid t) [ true ↦ map (replaced t s) σ ∷ [] | false ↦ [] ]
+      third : Option Subst
+      third = elim (flexible rigid t) [ true ↦ Some (map (replaced t s) σ) | false ↦ None ]
 
-      rest : List Subst
-      rest = elim (flexible rigid s) [ true ↦ map (replaced s t) σ ∷ [] | false ↦ third ]
+      rest : Option Subst
+      rest = elim (flexible rigid s) [ true ↦ Some (map (replaced s t) σ) | false ↦ third ]
 
       at_same : same s t ≡ true → Joined rigid σ s t
       at_same q = record {
         to = σ;
-        gives = elim_true (same s t) (σ ∷ []) rest q;
+        gives = elim_true (same s t) (Some σ) rest q;
         joins = joins_self σ;
         equal = (decides_same s t).0 q;
       }
@@ -272,7 +278,7 @@ module _ (rigid : ℕ → Bool) where
       at_left : same s t ≡ false → flexible rigid s ≡ true → Joined rigid σ s t
       at_left q f = record {
         to = map (replaced s t) σ;
-        gives = elim_false (same s t) (σ ∷ []) rest q ∙ elim_true (flexible rigid s) ((map (replaced s t) σ) ∷ []) third f;
+        gives = elim_false (same s t) (Some σ) rest q ∙ elim_true (flexible rigid s) (Some (map (replaced s t) σ)) third f;
         joins = joins_replaced σ s t f gt;
         equal = replaced_both s t;
       }
@@ -280,18 +286,18 @@ module _ (rigid : ℕ → Bool) where
       at_right : same s t ≡ false → flexible rigid s ≡ false → flexible rigid t ≡ true → Joined rigid σ s t
       at_right q f h = record {
         to = map (replaced t s) σ;
-        gives = elim_false (same s t) (σ ∷ []) rest q ∙ elim_false (flexible rigid s) ((map (replaced s t) σ) ∷ []) third f
-            ∙ elim_true (flexible rigid t) ((map (replaced t s) σ) ∷ []) [] h;
+        gives = elim_false (same s t) (Some σ) rest q ∙ elim_false (flexible rigid s) (Some (map (replaced s t) σ)) third f
+            ∙ elim_true (flexible rigid t) (Some (map (replaced t s) σ)) None h;
         joins = joins_replaced σ t s h gs;
         equal = sym (replaced_both t s);
       }
 
-      at_none : same s t ≡ false → flexible rigid s ≡ false → flexible rigid t ≡ false → unify rigid σ s t ≡ []
+      at_none : same s t ≡ false → flexible rigid s ≡ false → flexible rigid t ≡ false → unify rigid σ s t ≡ None
       at_none q f h =
-          elim_false (same s t) (σ ∷ []) rest q ∙ elim_false (flexible rigid s) ((map (replaced s t) σ) ∷ []) third f
-          ∙ elim_false (flexible rigid t) ((map (replaced t s) σ) ∷ []) [] h
+          elim_false (same s t) (Some σ) rest q ∙ elim_false (flexible rigid s) (Some (map (replaced s t) σ)) third f
+          ∙ elim_false (flexible rigid t) (Some (map (replaced t s) σ)) None h
 
-      at_other : same s t ≡ false → (unify rigid σ s t ≡ []) ⊎ Joined rigid σ s t
+      at_other : same s t ≡ false → (unify rigid σ s t ≡ None) ⊎ Joined rigid σ s t
       at_other q =
           ⊎_elim (λ f. inr (at_left q f))
           (λ f. ⊎_elim (λ h. inr (at_right q f h)) (λ h. inl (at_none q f h)) (cases_Bool (flexible rigid t)))
@@ -306,15 +312,15 @@ module _ (rigid : ℕ → Bool) where
   Alike m n ss ts τ = map (value (through τ m)) ss ≡ map (value (through τ n)) ts
 
   unify_all_joins : (m n : ℕ) (ss ts : List Term) (σ τ : Subst) → Each Slotted ss → Each Slotted ts → AllGround σ
-      → unify_all rigid m n ss ts σ ≡ τ ∷ [] → Joins rigid σ τ × Alike m n ss ts τ
-  unify_all_joins m n [] [] σ τ u w g e = (subst (Joins rigid σ) (heads_same e) (joins_self σ), refl)
-  unify_all_joins m n [] (t ∷ ts) σ τ u w g e = absurd (nil-cons e)
-  unify_all_joins m n (s ∷ ss) [] σ τ u w g e = absurd (nil-cons e)
+      → unify_all rigid m n ss ts σ ≡ Some τ → Joins rigid σ τ × Alike m n ss ts τ
+  unify_all_joins m n [] [] σ τ u w g e = (subst (Joins rigid σ) (some_same e) (joins_self σ), refl)
+  unify_all_joins m n [] (t ∷ ts) σ τ u w g e = absurd (none-some τ e)
+  unify_all_joins m n (s ∷ ss) [] σ τ u w g e = absurd (none-some τ e)
   unify_all_joins m n (s ∷ ss) (t ∷ ts) σ τ u w g e =
       ⊎_elim
-      (λ q. absurd (nil-cons (sym (ap (each (λ τ. unify_all rigid m n ss ts τ)) q) ∙ e)))
+      (λ q. absurd (none-some τ (sym (ap (option_and_then (λ τ. unify_all rigid m n ss ts τ)) q) ∙ e)))
       (λ one. first one (unify_all_joins m n ss ts one.to τ (λ x i. u x (inr i)) (λ x i. w x (inr i)) (one.joins.ground g)
-      (sym (append-nil (unify_all rigid m n ss ts one.to)) ∙ sym (ap (each (λ τ. unify_all rigid m n ss ts τ)) one.gives) ∙ e)))
+      (sym (ap (option_and_then (λ τ. unify_all rigid m n ss ts τ)) one.gives) ∙ e)))
       (unify_joined σ (value (through σ m) s) (value (through σ n) t) (value_ground σ g m s us) (value_ground σ g n t wt))
     where
       us : Slotted s
@@ -336,12 +342,12 @@ module _ (rigid : ℕ → Bool) where
           )
 
   pub unify_formulas_joins : (m n : ℕ) (a b : Formula) (σ τ : Subst) → Each Slotted a.terms → Each Slotted b.terms → AllGround σ
-      → unify_formulas rigid m n a b σ ≡ τ ∷ [] → Joins rigid σ τ × (under (through τ m) a ≡ under (through τ n) b)
+      → unify_formulas rigid m n a b σ ≡ Some τ → Joins rigid σ τ × (under (through τ m) a ≡ under (through τ n) b)
   unify_formulas_joins m n a b σ τ u w g e =
       ⊎_elim
-      (λ q. let r = unify_all_joins m n a.terms b.terms σ τ u w g (sym (elim_true (eqb a.predicate b.predicate) (unify_all rigid m n a.terms b.terms σ) [] q) ∙ e) in
+      (λ q. let r = unify_all_joins m n a.terms b.terms σ τ u w g (sym (elim_true (eqb a.predicate b.predicate) (unify_all rigid m n a.terms b.terms σ) None q) ∙ e) in
       (r.0, formula_path (eqb-true a.predicate b.predicate q) r.1))
-      (λ q. absurd (nil-cons (sym (elim_false (eqb a.predicate b.predicate) (unify_all rigid m n a.terms b.terms σ) [] q) ∙ e)))
+      (λ q. absurd (none-some τ (sym (elim_false (eqb a.predicate b.predicate) (unify_all rigid m n a.terms b.terms σ) None q) ∙ e)))
       (cases_Bool (eqb a.predicate b.predicate))
 
 -- formulas that are equal under a substitution are so under one that comes from it

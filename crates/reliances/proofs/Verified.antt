@@ -1,6 +1,6 @@
 -- What the tests of a sheet say together, and that entries which are read hold constants and nulls where the tests pass.
 -- Assumes nothing.
-use Rattle.std.proofs.Common.{◌≡◌, ℕ, ◌+◌, ◌-◌, ◌≤◌, Bool, true, List, ◌++◌, map, length, take, Decides, sym, ap, ◌∙◌, subst, inl, inr, ⊎_elim, arith}
+use Rattle.std.proofs.Common.{◌≡◌, ℕ, ◌≤◌, Bool, true, List, ◌++◌, map, Decides, sym, ap, ◌∙◌, subst, inl, inr, ⊎_elim}
 use Rattle.std.proofs.lemmas.Bool.Decides.{Decides-like}
 use Rattle.std.proofs.lemmas.List.{map-append}
 use Rattle.rules.specs.declared.Term.{Term}
@@ -8,19 +8,19 @@ use Rattle.rules.specs.declared.Term.TheVariants.{Constant, Variable, Null}
 use Rattle.rules.specs.declared.Atom.{Atom}
 use Rattle.rules.specs.declared.rule.Rule.{Rule}
 use Rattle.rules.specs.Logic.{In, Each, Formula, Implication, formula_of, terms_of}
-use Rattle.rules.specs.Bounds.{some, has?, head_of}
+use Rattle.rules.specs.Bounds.{every, some, has?, head_of}
 use Rattle.rules.specs.Matches.{Ground, IsNull, Facts, Stands, Assignment, value, under, Match, Unsatisfied, Applies, result}
 use Rattle.rules.specs.Reliances.{ShowsReliance, Alternative, ShowsRestraint}
 use Rattle.rules.specs.Rules.{meaning}
-use Rattle.rules.proofs.Membership.{in_left, stands_decided}
+use Rattle.rules.proofs.Membership.{in_left, stands_decided, decides_every}
 use Rattle.matches.specs.Lists.{look, formulas, under_atom, FactAtom, Sizes, HasAlternative}
+use Rattle.matches.specs.Matching.{fact_atom?}
+use Rattle.matches.proofs.Literal.{decides_fact_atom, facts_meant}
 use Rattle.matches.proofs.Basics.{in_map, from_terms, in_terms, either}
 use Rattle.matches.proofs.Bounded.{Within, Bounded, bounded}
-use Rattle.reliances.specs.declared.sheet.Kind.{Kind}
-use Rattle.reliances.specs.declared.sheet.Kind.TheVariants.{Positive, Restraint}
 use Rattle.reliances.specs.declared.sheet.Sheet.{Sheet}
-use Rattle.reliances.specs.Sheets.{first_list, second_list, later_facts, Filled, Matched, Applied, ShowsPositive, ShowsRestrained, Shows, Holds}
-use Rattle.reliances.proofs.Putting.{all_under}
+use Rattle.reliances.specs.Sheets.{first_list, second_list, later_facts, Filled, Matched, Applied, ShowsPositive, ShowsRestrained}
+use Rattle.reliances.proofs.Laying.{all_under}
 use Rattle.reliances.proofs.Slots.{facts_under, facts_both}
 
 null_ground : (t : Term) → IsNull t → Ground t
@@ -60,27 +60,19 @@ module _ (R : Implication) (h : Assignment) (F : List Formula) (facts : Facts F)
   alternative_filled K more k p a v (inl u) = subst Ground (sym (a.agrees v u)) (applied_filled p v (inl u))
   alternative_filled K more k p a v (inr e) = read_ground k K R.head more a.present v e.0
 
--- atoms that are put at the start of an array
-pub put_first : (xs all : List Atom) → take (0 + length xs) all ≡ xs → formulas (take (length xs) all) ≡ formulas xs
-put_first xs all e = ap (λ n. formulas (take n all)) (let z : length xs ≡ 0 + length xs = omega arith in z) ∙ ap formulas e
+-- atoms that pass the test are facts
+pub each_fact : (xs : List Atom) → every fact_atom? xs ≡ true → Each FactAtom xs
+each_fact xs e = (decides_every fact_atom? FactAtom decides_fact_atom xs).0 e
 
--- a head that is put after facts, as h says
-pub put_result : (R : Rule) (h : Assignment) (F : List Formula) (n : ℕ) (all after head : List Atom) → formulas (take n all) ≡ F → head ≡ head_of R.parts
-    → take (n + length head) after ≡ take n all ++ map (under_atom h) head
-    → formulas (take (n + length head) after) ≡ result (meaning R) h F
-put_result R h F n all after head e p f =
-    ap formulas f ∙ map-append formula_of (take n all) (map (under_atom h) head)
-    ∙ (λ i. e i ++ all_under h head i) ∙ (λ i. F ++ map (under h) (formulas (p i)))
+pub listed_facts : (xs : List Atom) → every fact_atom? xs ≡ true → Facts (formulas xs)
+listed_facts xs e = facts_meant xs (each_fact xs e)
 
--- atoms that are put after facts
-pub put_more_facts : (H : List Formula) (n : ℕ) (all after more : List Atom) → formulas (take n all) ≡ H → take (n + length more) after ≡ take n all ++ more
-    → formulas (take (n + length more) after) ≡ H ++ formulas more
-put_more_facts H n all after more e f =
-    ap formulas f ∙ map-append formula_of (take n all) more ∙ ap (λ z. z ++ formulas more) e
-
--- the part of an array from its start
-pub from_start : (n : ℕ) (all : List Atom) (F : List Formula) → formulas (take n all) ≡ F → formulas (take (n - 0) all) ≡ F
-from_start n all F e = ap (λ m. formulas (take m all)) (let z : n - 0 ≡ n = omega arith in z) ∙ e
+-- facts with a head added, as h says
+pub resulted : (R : Rule) (h : Assignment) (xs head ys : List Atom) → head ≡ head_of R.parts → ys ≡ xs ++ map (under_atom h) head
+    → formulas ys ≡ result (meaning R) h (formulas xs)
+resulted R h xs head ys e p =
+    ap formulas p ∙ map-append formula_of xs (map (under_atom h) head)
+    ∙ (λ i. formulas xs ++ all_under h head i) ∙ (λ i. formulas xs ++ map (under h) (formulas (e i)))
 
 pub reliance_decided : (A B : Implication) (F G : List Formula) (f s : Assignment) → Facts F → G ≡ result A f F → Applies A f F → (Match B s F → ⊥)
     → (r : Bool) → Decides r (Unsatisfied B s G) → Decides r (ShowsReliance A B F f s)
@@ -147,12 +139,6 @@ module _ (A B : Rule) (S : Sheet) (L : List Atom) (listed : L ≡ first_list S) 
       (λ w. subst (λ l. ShowsReliance (meaning A) (meaning B) (formulas l) f s) (sym listed) w.shows)
       d
 
-  pub no_facts : (Each FactAtom L → ⊥) → ShowsPositive (meaning A) (meaning B) S → ⊥
-  no_facts n w = n (subst (Each FactAtom) (sym listed) w.facts)
-
-  pub no_first_facts : (Each FactAtom L → ⊥) → ShowsRestrained (meaning A) (meaning B) S → ⊥
-  no_first_facts n w = n (subst (Each FactAtom) (sym listed) w.facts)
-
   module _ (M : List Atom) (added : M ≡ second_list S) where
     abbrev k : Assignment
     k = look S.alternative
@@ -186,25 +172,3 @@ module _ (A B : Rule) (S : Sheet) (L : List Atom) (listed : L ≡ first_list S) 
         (subst (λ m. ShowsAt (first_list S) m) added (subst (λ l. ShowsAt l M) listed w)))
         (λ w. subst (λ l. ShowsAt l M) (sym listed) (subst (λ m. ShowsAt (first_list S) m) (sym added) w.shows))
         d
-
-    pub no_second_facts : (Each FactAtom M → ⊥) → ShowsRestrained (meaning A) (meaning B) S → ⊥
-    no_second_facts n w = n (subst (Each FactAtom) (sym added) w.more)
-
--- a sheet that meets the definition shows that the relation holds
-shown_holds : (kind : Kind) (A B : Rule) (S : Sheet) → Shows kind A B S → Holds kind A B
-shown_holds Positive A B S w =
-    record { before = formulas (first_list S); first = look S.first_rule; second = look S.second_rule; shows = w.shows }
-shown_holds Restraint A B S w = record {
-  before = formulas (first_list S);
-  later = later_facts (meaning B) S;
-  first = look S.first_rule;
-  second = look S.second_rule;
-  other = look S.alternative;
-  shows = w.shows;
-}
-
--- the answer for the kind that was asked about
-pub verified : (asked kind : Kind) (A B : Rule) (S : Sheet) → asked ≡ kind → (r : Bool) → Decides r (Shows kind A B S)
-    → Decides r (Shows asked A B S) × (r ≡ true → Holds asked A B)
-verified asked kind A B S e r d =
-    let z : Decides r (Shows asked A B S) = subst (λ k. Decides r (Shows k A B S)) (sym e) d in (z, λ q. shown_holds asked A B S (z.0 q))

@@ -1,5 +1,4 @@
 pub mod Unification
-pub mod Marking
 pub mod Marked
 pub mod Sheets
 pub mod Following

@@ -61,22 +61,18 @@ laid_later A B σ old = (laid_before B σ ++ map (under_atom (look (part σ 12))
 abbrev pub SomeSpared : List Bool → List Formula → Type 0
 SomeSpared rigid F = (r : ℕ) × (12 ≤ r) × (flags rigid r ≡ true) × (Stands (Null r) F → ⊥)
 
--- the slots of B's existential variables are flagged
-abbrev pub Marks : Implication → List Bool → Type 0
-Marks B rigid = (v : ℕ) → Existential B v → flags rigid (12 + v) ≡ true
-
 -- an alternative on S and the variable whose null it spares, or none where there is no alternative at all
 abbrev pub EarlyFound : Implication → Assignment → List Formula → Option Early → Type 0
 EarlyFound B h S (Some e) = Spares B h S e.spared (look e.values)
 EarlyFound B h S None = (k : Assignment) → Alternative B h S k → ⊥
 
--- the term is a flexible null that stands in the formulas, and not in an earlier slot
-abbrev pub IsChoice : List Bool → Subst → ℕ → List Formula → Term → Type 0
-IsChoice rigid σ i F t = (flexible (flags rigid) t ≡ true) × (In t (take i σ) → ⊥) × Stands t F
+-- the term is a flexible null that stands in the formulas, and in no slot before
+abbrev pub IsChoice : List Bool → List Term → List Formula → Term → Type 0
+IsChoice rigid before F t = (flexible (flags rigid) t ≡ true) × (In t before → ⊥) × Stands t F
 
--- the list holds what the alternative gives the variables below n
-abbrev pub OtherIs : List Bool → Subst → ℕ → List Term → Type 0
-OtherIs rigid σ n xs = (v : ℕ) → v < n → look xs v ≡ value (through σ 12) (shift_by rigid (Variable v))
+-- the list holds what the alternative gives the variables
+abbrev pub OtherIs : List Bool → Subst → List Term → Type 0
+OtherIs rigid σ xs = (v : ℕ) → v < 12 → look xs v ≡ value (through σ 12) (shift_by rigid (Variable v))
 
 -- the sheet that a way ends in
 pub record IsFound (A B : Rule) (rigid : List Bool) (σ : Subst) (old : List Atom) (s : Sheet) : Type 0 where
@@ -84,6 +80,6 @@ pub record IsFound (A B : Rule) (rigid : List Bool) (σ : Subst) (old : List Ato
   pub fewer : s.second_len ≤ 9
   pub first_rule : s.first_rule ≡ part σ 0
   pub second_rule : s.second_rule ≡ part σ 12
-  pub other : OtherIs rigid σ 12 s.alternative
+  pub other : OtherIs rigid σ s.alternative
   pub list : take s.first_len s.first ≡ laid_before B σ
   pub more : take s.second_len s.second ≡ laid_extra A σ old

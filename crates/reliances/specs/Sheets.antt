@@ -1,5 +1,5 @@
 -- What a sheet shows, and what an answer with a sheet says.
-use Rattle.std.specs.Prelude.{◌≡◌, ℕ, ◌≤◌, Bool, true, false, ◌⊎◌, List, ◌++◌, take}
+use Rattle.std.specs.Prelude.{◌≡◌, ℕ, ◌≤◌, ◌⊎◌, List, ◌++◌, take}
 use Rattle.rules.specs.declared.Atom.{Atom}
 use Rattle.rules.specs.declared.rule.Rule.{Rule}
 use Rattle.rules.specs.Logic.{Each, Formula, Implication, Universal, Existential}
@@ -62,8 +62,3 @@ Shows Restraint A B s = ShowsRestrained (meaning A) (meaning B) s
 abbrev pub Holds : Kind → Rule → Rule → Type 0
 Holds Positive A B = PositiveReliance (meaning A) (meaning B)
 Holds Restraint A B = Restrained (meaning A) (meaning B)
-
--- a yes comes with a sheet that meets the definition, a no leaves the sheet as it was
-abbrev pub Filed : Kind → Rule → Rule → Bool → Sheet → Sheet → Type 0
-Filed kind A B true before after = Shows kind A B after
-Filed kind A B false before after = after ≡ before

@@ -1,7 +1,8 @@
 -- Symbolic matches of two rules: substitutions by slot, how atoms are unified, and the facts that a substitution stands for.
 -- The variable v of A is slot v, that of B slot 12 + v, and the alternative's value of B's existential variable v is slot 24 + v.
 -- A slot holds a constant, or the null of some slot.
-use Rattle.std.specs.Prelude.{◌≡◌, ℕ, zero, suc, ◌+◌, ◌-◌, Bool, true, false, cond, not, List, [], ◌∷◌, ◌++◌, map, take, drop, ◌==◌, nat_lt, slice_index_or}
+use Rattle.std.specs.Prelude.{◌≡◌, ℕ, zero, suc, ◌+◌, ◌-◌, Bool, true, false, cond, not, List, [], ◌∷◌, ◌++◌, map, take, drop, Option, Some, None, ◌==◌, nat_lt, slice_index_or}
+use Rattle.std.specs.Option.{option_and_then}
 use Rattle.rules.specs.declared.Term.{Term}
 use Rattle.rules.specs.declared.Term.TheVariants.{Constant, Variable, Null}
 use Rattle.rules.specs.Logic.{Formula, Implication}
@@ -28,41 +29,31 @@ flexible rigid (Constant c) = false
 flexible rigid (Variable v) = false
 flexible rigid (Null r) = not (rigid r)
 
--- the results for each element, one after the other
-abbrev pub each : {A B : Type 0} → (A → List B) → List A → List B
-each f [] = []
-each f (x ∷ xs) = f x ++ each f xs
-
 -- the substitution that makes two terms equal, or none
-abbrev pub unify : (ℕ → Bool) → Subst → Term → Term → List Subst
+abbrev pub unify : (ℕ → Bool) → Subst → Term → Term → Option Subst
 unify rigid σ s t =
     elim (same s t) [
-      | true ↦ σ ∷ []
+      | true ↦ Some σ
       | false ↦
           elim (flexible rigid s) [
-            | true ↦ map (replaced s t) σ ∷ []
+            | true ↦ Some (map (replaced s t) σ)
             | false ↦
-                elim (flexible rigid t) [ true ↦ map (replaced t s) σ ∷ [] | false ↦ [] ]
+                elim (flexible rigid t) [ true ↦ Some (map (replaced t s) σ) | false ↦ None ]
           ]
     ]
 
 -- the same for lists of terms, the first read from slot m on and the second from slot n on
-abbrev pub unify_all : (ℕ → Bool) → ℕ → ℕ → List Term → List Term → Subst → List Subst
-unify_all rigid m n [] [] σ = σ ∷ []
-unify_all rigid m n [] (t ∷ ts) σ = []
-unify_all rigid m n (s ∷ ss) [] σ = []
+abbrev pub unify_all : (ℕ → Bool) → ℕ → ℕ → List Term → List Term → Subst → Option Subst
+unify_all rigid m n [] [] σ = Some σ
+unify_all rigid m n [] (t ∷ ts) σ = None
+unify_all rigid m n (s ∷ ss) [] σ = None
 unify_all rigid m n (s ∷ ss) (t ∷ ts) σ =
-    each (λ τ. unify_all rigid m n ss ts τ) (unify rigid σ (value (through σ m) s) (value (through σ n) t))
+    option_and_then (λ τ. unify_all rigid m n ss ts τ) (unify rigid σ (value (through σ m) s) (value (through σ n) t))
 
 -- the same for formulas
-abbrev pub unify_formulas : (ℕ → Bool) → ℕ → ℕ → Formula → Formula → Subst → List Subst
+abbrev pub unify_formulas : (ℕ → Bool) → ℕ → ℕ → Formula → Formula → Subst → Option Subst
 unify_formulas rigid m n a b σ =
-    elim (a.predicate == b.predicate) [ true ↦ unify_all rigid m n a.terms b.terms σ | false ↦ [] ]
-
--- what a `bool` and the substitution left behind say of an attempt
-abbrev pub Gave : List Subst → Bool → Subst → Type 0
-Gave l true σ = l ≡ σ ∷ []
-Gave l false σ = l ≡ []
+    elim (a.predicate == b.predicate) [ true ↦ unify_all rigid m n a.terms b.terms σ | false ↦ None ]
 
 -- a list of flags as a test
 abbrev pub flags : List Bool → ℕ → Bool

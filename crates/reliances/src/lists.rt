@@ -1,80 +1,69 @@
-// Short lists of atoms in arrays.
-ghost use Rattle.std.specs.Prelude.{◌≡◌, ◌+◌, ◌≤◌, ◌++◌, map, length, take};
+// Short lists of atoms, and the ways to read them.
+ghost use Rattle.std.specs.Prelude.{◌≡◌, ◌+◌, ◌≤◌, ◌++◌, map, length};
+ghost use Rattle.arrayvec.specs.ArrayVec.{array_vec_len};
+ghost use Rattle.rules.specs.declared.Atom.{Atom};
 ghost use Rattle.rules.specs.Logic.{formula_of};
 ghost use Rattle.rules.specs.Bounds.{some};
 ghost use Rattle.matches.specs.Lists.{look, formulas, under_atom};
 ghost use Rattle.reliances.specs.Unification.{of?, shares?};
 
+use arrayvec::ArrayVec;
 use matches::atom_under;
 use rules::{Atom, Term};
 
-/// Writes the atoms from a place on.
-pub(crate) fn put(atoms: &[Atom], into: &mut [Atom], at: usize)
-    requires { at + length atoms.now ≤ length into.old }
-    ensures { take (at + length atoms.now) into.new ≡ take at into.old ++ atoms.now }
-{
-    for i in 0..atoms.len() {
-        into[at + i] = atoms[i];
+/// A way to read atoms, and what it makes of each.
+pub(crate) trait Reading {
+    ghost gives: { Self → Atom → Atom };
+
+    fn read(&self, a: &Atom) -> Atom
+        ensures { result ≡ gives self.now a.now };
+}
+
+/// Atoms are read with their variables as the values say.
+#[derive(Clone, Copy)]
+pub(crate) struct Under<'a>(pub &'a [Term]);
+
+impl Reading for Under<'_> {
+    ghost gives = { λ r a. under_atom (look r.0.now) a };
+
+    fn read(&self, a: &Atom) -> Atom {
+        atom_under(a, self.0)
     }
 }
 
-/// Writes the atoms, with their variables as `h` says, from a place on.
-pub(crate) fn put_under(atoms: &[Atom], h: &[Term], into: &mut [Atom], at: usize)
-    requires { at + length atoms.now ≤ length into.old }
-    ensures { take (at + length atoms.now) into.new ≡ take at into.old ++ map (under_atom (look h.now)) atoms.now }
+/// Adds what the reading makes of each atom.
+pub(crate) fn push_each<const N: usize, R: Reading>(
+    atoms: &[Atom],
+    reading: &R,
+    into: &mut ArrayVec<Atom, N>,
+)
+    requires { array_vec_len into.old + length atoms.now ≤ N }
+    ensures { into.new.items ≡ into.old.items ++ map (R.gives reading.now) atoms.now }
 {
-    for i in 0..atoms.len() {
-        into[at + i] = atom_under(&atoms[i], h);
+    for a in atoms {
+        into.push(reading.read(a));
     }
 }
 
-/// The first `n` of the facts on a sheet's first list, or all of them.
-pub(crate) fn first_eleven(atoms: &[Atom; 11], n: u8) -> &[Atom]
-    ensures { (result.now ≡ take n atoms.now) × (length result.now ≤ 11) }
+/// Adds the atoms.
+pub(crate) fn push_all<const N: usize>(atoms: &[Atom], into: &mut ArrayVec<Atom, N>)
+    requires { array_vec_len into.old + length atoms.now ≤ N }
+    ensures { into.new.items ≡ into.old.items ++ atoms.now }
 {
-    if n < 11 {
-        &atoms[0..n as usize]
-    } else {
-        &atoms[0..11]
-    }
+    // There is room, so it cannot fail.
+    let _ = into.try_extend_from_slice(atoms);
 }
 
-/// The first `n` of the facts on a sheet's second list, or all of them.
-pub(crate) fn first_nine(atoms: &[Atom; 9], n: u8) -> &[Atom]
-    ensures { (result.now ≡ take n atoms.now) × (length result.now ≤ 9) }
-{
-    if n < 9 {
-        &atoms[0..n as usize]
-    } else {
-        &atoms[0..9]
-    }
-}
-
-fn is_of(a: &Atom, predicate: u16) -> bool
-    ensures { result ≡ of? predicate (formula_of a.now) }
-{
-    a.predicate == predicate
-}
-
+// Whether one of the atoms has the predicate.
 fn any_of(atoms: &[Atom], predicate: u16) -> bool
     ensures { result ≡ some (of? predicate) (formulas atoms.now) }
 {
-    for i in 0..atoms.len() {
-        if is_of(&atoms[i], predicate) {
-            return true;
-        }
-    }
-    false
+    atoms.iter().any(|a| a.predicate == predicate)
 }
 
 /// Whether an atom of `list` has the predicate of one of `heads`.
 pub(crate) fn share_predicate(heads: &[Atom], list: &[Atom]) -> bool
     ensures { result ≡ shares? (formulas heads.now) (formulas list.now) }
 {
-    for i in 0..list.len() {
-        if any_of(heads, list[i].predicate) {
-            return true;
-        }
-    }
-    false
+    list.iter().any(|b| any_of(heads, b.predicate))
 }

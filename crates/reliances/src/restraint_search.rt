@@ -1,22 +1,45 @@
 // The nodes of the search for a restraint, and the end of a way, where alternatives that come too early are refined away.
-ghost use Rattle.std.specs.Prelude.{◌≡◌, ◌+◌, ◌<◌, ◌≤◌, [], ◌++◌, map, length, take, Decides, slice_index_or};
+ghost use Rattle.std.specs.Prelude.{◌≡◌, ◌+◌, ◌<◌, ◌≤◌, [], ◌++◌, map, length, Decides};
 ghost use Rattle.rules.specs.Logic.{In};
 ghost use Rattle.rules.specs.Rules.{meaning};
-ghost use Rattle.rules.specs.declared.Term.TheVariants.{Constant};
 ghost use Rattle.matches.specs.Lists.{look, formulas, under_atom};
-ghost use Rattle.matches.specs.Matching.{same};
 ghost use Rattle.reliances.specs.declared.sheet.Kind.TheVariants.{Restraint};
-ghost use Rattle.reliances.specs.Unification.{rigid_both, FlagsAre};
-ghost use Rattle.reliances.specs.Following.{Node};
-ghost use Rattle.reliances.specs.RestraintSearch.{shifted, shift_by, shift_atom, laid_later, SomeSpared, Marks, EarlyFound, IsChoice, OtherIs, Open, IsFound};
-ghost use Rattle.reliances.specs.Searching.{Shut, Searched};
+ghost use Rattle.reliances.specs.RestraintSearch.{shift_by, shift_atom, laid_later, SomeSpared, EarlyFound, IsChoice, OtherIs, Open, IsFound};
+ghost use Rattle.reliances.specs.Searching.{OnWay, Shut, Searched};
 
-use crate::Sheet;
-use crate::lists::put_under;
-use crate::substitution::{copy_slots, first_slots, has_rigid, second_slots, wide_slots};
+use crate::lists::{Reading, Under, push_each};
+use crate::search::{Question, Relation, Way, counted};
+use crate::substitution::{first_slots, has_rigid, second_slots, wide_slots};
 use crate::unifier::{is_flexible, replace, slot_value};
+use crate::{Kind, Sheet};
+use arrayvec::ArrayVec;
 use matches::{atom_under, find_alternative, is_satisfied, sized, stands_in};
 use rules::{Atom, Rule, Term};
+use std::array;
+
+/// The first rule restrains the second.
+pub(crate) struct Restrains;
+
+impl Relation for Restrains {
+    const KIND: Kind = Kind::Restraint;
+
+    ghost KIND = { Restraint };
+
+    fn is_shut(asked: &Question<Restrains>, way: &Way) -> bool {
+        if way.old.len() + way.rest.len() >= asked.second.head().len() {
+            return false;
+        }
+        !is_open(asked, way, &later(asked, way))
+    }
+
+    // Some atom has to be new, and nothing may rule the restraint out.
+    fn finish(asked: &Question<Restrains>, way: &Way) -> Option<Sheet> {
+        if way.old.len() >= asked.second.head().len() {
+            return None;
+        }
+        settle(asked, way)
+    }
+}
 
 /// An alternative that comes too early, and the variable whose null it spares.
 #[derive(Clone, Copy)]
@@ -30,14 +53,7 @@ fn shift_term(t: Term, rigid: &[bool; 36]) -> Term
     ensures { result ≡ shift_by rigid.now t }
 {
     match t {
-        Term::Variable(v) => {
-            let i = 12 + v as usize;
-            if i < 36 {
-                if rigid[i] { Term::Variable(12 + v) } else { t }
-            } else {
-                t
-            }
-        }
+        Term::Variable(v) if rigid.get(12 + v as usize) == Some(&true) => Term::Variable(12 + v),
         _ => t,
     }
 }
@@ -45,139 +61,88 @@ fn shift_term(t: Term, rigid: &[bool; 36]) -> Term
 fn shift_terms(terms: &[Term; 4], rigid: &[bool; 36]) -> [Term; 4]
     ensures { result ≡ map (shift_by rigid.now) terms.now }
 {
-    [
-        shift_term(terms[0], rigid),
-        shift_term(terms[1], rigid),
-        shift_term(terms[2], rigid),
-        shift_term(terms[3], rigid),
-    ]
+    terms.map(|t| shift_term(t, rigid))
 }
 
-fn shift_atom(a: &Atom, rigid: &[bool; 36]) -> Atom
-    ensures { result ≡ shift_atom rigid.now a.now }
-{
-    Atom {
-        predicate: a.predicate,
-        arity: a.arity,
-        terms: shift_terms(&a.terms, rigid),
+/// Atoms are read as an alternative reads them, by the flags of the slots.
+#[derive(Clone, Copy)]
+pub(crate) struct Shifted<'a>(pub &'a [bool; 36]);
+
+impl Reading for Shifted<'_> {
+    ghost gives = { λ r a. shift_atom r.0.now a };
+
+    fn read(&self, a: &Atom) -> Atom {
+        Atom {
+            terms: shift_terms(&a.terms, self.0),
+            ..*a
+        }
     }
 }
 
-/// Writes the atoms as an alternative reads them, from a place on.
-pub(crate) fn put_shifted(atoms: &[Atom], rigid: &[bool; 36], into: &mut [Atom], at: usize)
-    requires { at + length atoms.now ≤ length into.old }
-    ensures { take (at + length atoms.now) into.new ≡ take at into.old ++ map (shift_atom rigid.now) atoms.now }
-{
-    for i in 0..atoms.len() {
-        into[at + i] = shift_atom(&atoms[i], rigid);
+// Atoms are read as an alternative reads them, and their variables as its values say.
+#[derive(Clone, Copy)]
+struct Other<'a> {
+    shifted: Shifted<'a>,
+    values: &'a [Term],
+}
+
+impl Reading for Other<'_> {
+    ghost gives = { λ r a. under_atom (look r.values.now) (shift_atom r.shifted.0.now a) };
+
+    fn read(&self, a: &Atom) -> Atom {
+        atom_under(&self.shifted.read(a), self.values)
     }
 }
 
-// Writes what an alternative makes of the atoms, from a place on.
-fn put_other(atoms: &[Atom], rigid: &[bool; 36], wide: &[Term], into: &mut [Atom], at: usize)
-    requires { at + length atoms.now ≤ length into.old }
-    ensures { take (at + length atoms.now) into.new ≡ take at into.old ++ map (λ a. under_atom (look wide.now) (shift_atom rigid.now a)) atoms.now }
+// The facts of a node: what the second rule is applied on and gives, and what is there besides.
+fn later(asked: &Question<Restrains>, way: &Way) -> ArrayVec<Atom, 19>
+    requires { length way.now.old.now ≤ 3 }
+    ensures { result.items ≡ laid_later asked.now.first.now asked.now.second.now way.now.sigma.now way.now.old.now }
 {
-    for i in 0..atoms.len() {
-        into[at + i] = atom_under(&shift_atom(&atoms[i], rigid), wide);
-    }
-}
-
-// Writes the facts of a node: what the second rule is applied on and gives, and what is there besides. Gives how many.
-fn put_later(a: &Rule, b: &Rule, old: &[Atom], sigma: &[Term; 36], into: &mut [Atom]) -> usize
-    requires { (length old.now ≤ 3) × (19 ≤ length into.old) }
-    ensures { (result ≤ 19) × (take result into.new ≡ laid_later a.now b.now sigma.now old.now) }
-{
-    let second = second_slots(sigma);
-    let body = b.body();
-    let head = b.head();
-    let own = a.body();
-    let n = body.len();
-    let m = n + head.len();
-    let k = m + own.len();
-    put_under(body, second, into, 0);
-    put_under(head, second, into, n);
-    put_under(own, first_slots(sigma), into, m);
-    put_under(old, wide_slots(sigma), into, k);
-    k + old.len()
+    let second = second_slots(way.sigma);
+    let mut all = ArrayVec::new();
+    push_each(asked.second.body(), &Under(second), &mut all);
+    push_each(asked.second.head(), &Under(second), &mut all);
+    push_each(asked.first.body(), &Under(first_slots(way.sigma)), &mut all);
+    push_each(way.old, &Under(wide_slots(way.sigma)), &mut all);
+    all
 }
 
 // Whether some null that the application gives stands in none of the atoms.
 fn some_spared(rigid: &[bool; 36], list: &[Atom]) -> bool
     ensures { Decides result (SomeSpared rigid.now (formulas list.now)) }
 {
-    for r in 12..36 {
-        if rigid[r] {
-            if !stands_in(Term::Null(r as u16), list) {
-                return true;
-            }
-        }
-    }
-    false
+    (12..36).any(|r| rigid[r] && !stands_in(Term::Null(r as u16), list))
 }
 
 // Whether nothing rules the restraint out yet but alternatives that come too early. The list is the facts of the node.
-fn is_open(
-    a: &Rule,
-    b: &Rule,
-    sigma: &[Term; 36],
-    rigid: &[bool; 36],
-    old: &[Atom],
-    list: &[Atom],
-) -> bool
-    requires { (FlagsAre rigid.now (rigid_both (meaning a.now) (meaning b.now))) × (list.now ≡ laid_later a.now b.now sigma.now old.now) }
-    ensures { Decides result (Open (meaning a.now) (meaning b.now) sigma.now (formulas old.now)) }
+fn is_open(asked: &Question<Restrains>, way: &Way, list: &[Atom]) -> bool
+    requires { list.now ≡ laid_later asked.now.first.now asked.now.second.now way.now.sigma.now way.now.old.now }
+    ensures { Decides result (Open (meaning asked.now.first.now) (meaning asked.now.second.now) way.now.sigma.now (formulas way.now.old.now)) }
 {
-    let second = second_slots(sigma);
-    let before = &list[0..b.body().len()];
-    if has_rigid(before, rigid) {
+    let second = second_slots(way.sigma);
+    let before = &list[..asked.second.body().len()];
+    if has_rigid(before, &asked.rigid)
+        || is_satisfied(asked.second, second, before)
+        || has_rigid(list, &asked.rigid[..12])
+        || is_satisfied(asked.first, first_slots(way.sigma), list)
+    {
         return false;
     }
-    if is_satisfied(b, second, before) {
-        return false;
-    }
-    if has_rigid(list, &rigid[0..12]) {
-        return false;
-    }
-    if is_satisfied(a, first_slots(sigma), list) {
-        return false;
-    }
-    let head = b.head();
-    let mut other = [Atom::BLANK; 4];
-    put_other(head, rigid, wide_slots(sigma), &mut other, 0);
-    some_spared(rigid, &other[0..head.len()])
-}
-
-/// Whether no facts and matches that show the restraint can follow to the node.
-pub(crate) fn is_shut(
-    a: &Rule,
-    b: &Rule,
-    sigma: &[Term; 36],
-    rigid: &[bool; 36],
-    old: &[Atom],
-    rest: &[Atom],
-) -> bool
-    requires { (FlagsAre rigid.now (rigid_both (meaning a.now) (meaning b.now))) × (Node (meaning a.now).head (shifted (meaning b.now)) rigid.now sigma.now old.now rest.now) }
-    ensures { Shut result Restraint a.now b.now rigid.now sigma.now old.now }
-{
-    if old.len() + rest.len() >= b.head().len() {
-        return false;
-    }
-    let mut later = [Atom::BLANK; 19];
-    let n = put_later(a, b, old, sigma, &mut later);
-    !is_open(a, b, sigma, rigid, old, &later[0..n])
+    let mut other: ArrayVec<Atom, 4> = ArrayVec::new();
+    let read = Other {
+        shifted: Shifted(&asked.rigid),
+        values: wide_slots(way.sigma),
+    };
+    push_each(asked.second.head(), &read, &mut other);
+    some_spared(&asked.rigid, &other)
 }
 
 // Some alternative on the facts, or none where there is none at all.
-fn find_early(b: &Rule, h: &[Term], rigid: &[bool; 36], list: &[Atom]) -> Option<Early>
-    requires { Marks (meaning b.now) rigid.now }
+fn find_early(b: &Rule, h: &[Term], list: &[Atom]) -> Option<Early>
     ensures { EarlyFound (meaning b.now) (look h.now) (formulas list.now) result }
 {
-    for v in 0..12 {
-        if !rigid[12 + v] {
-            continue;
-        }
-        let spared = v as u16;
+    for spared in 0..12 {
         if let Some(values) = find_alternative(b, h, list, spared) {
             return Some(Early { spared, values });
         }
@@ -185,129 +150,88 @@ fn find_early(b: &Rule, h: &[Term], rigid: &[bool; 36], list: &[Atom]) -> Option
     None
 }
 
-fn is_same(a: Term, b: Term) -> bool
-    ensures { result ≡ same a b }
-{
-    a == b
-}
-
-// Whether the term stands in one of the slots.
 fn is_slot(t: Term, slots: &[Term]) -> bool
     ensures { Decides result (In t slots.now) }
 {
-    for i in 0..slots.len() {
-        if is_same(t, slots[i]) {
-            return true;
-        }
-    }
-    false
+    slots.contains(&t)
 }
 
-// Whether the null of slot `i` is one to refine on: flexible, in the atoms, and not in an earlier slot.
-fn is_choice(i: usize, sigma: &[Term; 36], rigid: &[bool; 36], given: &[Atom]) -> bool
-    requires { i < 36 }
-    ensures { Decides result (IsChoice rigid.now sigma.now i (formulas given.now) (slice_index_or sigma.now i (Constant 0))) }
+// Whether the term of a slot is one to refine on: a flexible null, in the atoms, and in no slot before.
+fn is_choice(t: Term, before: &[Term], rigid: &[bool], given: &[Atom]) -> bool
+    ensures { Decides result (IsChoice rigid.now before.now (formulas given.now) t) }
 {
-    let t = sigma[i];
-    if !is_flexible(t, rigid) {
-        return false;
-    }
-    if is_slot(t, &sigma[0..i]) {
-        return false;
-    }
-    stands_in(t, given)
+    is_flexible(t, rigid) && !is_slot(t, before) && stands_in(t, given)
 }
 
 // What the alternative gives the variables of the second rule.
 fn other_values(sigma: &[Term; 36], rigid: &[bool; 36]) -> [Term; 12]
-    ensures { OtherIs rigid.now sigma.now 12 result }
+    ensures { OtherIs rigid.now sigma.now result }
 {
-    let mut r = [Term::Constant(0); 12];
-    for v in 0..12 {
-        r[v] = slot_value(shift_term(Term::Variable(v as u16), rigid), sigma, 12);
-    }
-    r
+    array::from_fn(|v| slot_value(shift_term(Term::Variable(v as u16), rigid), sigma, 12))
 }
 
 // The sheet of a way on which nothing remains.
-fn found_sheet(a: &Rule, b: &Rule, sigma: &[Term; 36], rigid: &[bool; 36], old: &[Atom]) -> Sheet
-    requires { length old.now ≤ 3 }
-    ensures { IsFound a.now b.now rigid.now sigma.now old.now result }
+fn found_sheet(asked: &Question<Restrains>, way: &Way) -> Sheet
+    requires { length way.now.old.now ≤ 3 }
+    ensures { IsFound asked.now.first.now asked.now.second.now asked.now.rigid way.now.sigma.now way.now.old.now result }
 {
-    let mut first = [Atom::BLANK; 11];
-    let mut second = [Atom::BLANK; 9];
-    let body = b.body();
-    let own = a.body();
-    let n = body.len();
-    let m = own.len();
-    put_under(body, second_slots(sigma), &mut first, 0);
-    put_under(own, first_slots(sigma), &mut second, 0);
-    put_under(old, wide_slots(sigma), &mut second, m);
+    let mut before: ArrayVec<Atom, 6> = ArrayVec::new();
+    let mut extra: ArrayVec<Atom, 9> = ArrayVec::new();
+    push_each(
+        asked.second.body(),
+        &Under(second_slots(way.sigma)),
+        &mut before,
+    );
+    push_each(
+        asked.first.body(),
+        &Under(first_slots(way.sigma)),
+        &mut extra,
+    );
+    push_each(way.old, &Under(wide_slots(way.sigma)), &mut extra);
+    let (first, first_len) = counted(&before);
+    let (second, second_len) = counted(&extra);
     Sheet {
         first,
-        first_len: n as u8,
+        first_len,
         second,
-        second_len: (m + old.len()) as u8,
-        first_rule: copy_slots(sigma, 0),
-        second_rule: copy_slots(sigma, 12),
-        alternative: other_values(sigma, rigid),
+        second_len,
+        first_rule: *first_slots(way.sigma),
+        second_rule: *second_slots(way.sigma),
+        alternative: other_values(way.sigma, &asked.rigid),
     }
 }
 
 // The end of a way. An alternative that comes too early is no alternative where one of its flexible nulls is the one that it
 // spares: so each of them is tried as that null.
-fn settle(
-    a: &Rule,
-    b: &Rule,
-    sigma: &[Term; 36],
-    rigid: &[bool; 36],
-    old: &[Atom],
-    sheet: &mut Sheet,
-) -> bool
-    requires { (length old.now ≤ 3) × ((FlagsAre rigid.now (rigid_both (meaning a.now) (meaning b.now))) × (Node (meaning a.now).head (shifted (meaning b.now)) rigid.now sigma.now old.now [])) }
-    ensures { Searched result Restraint a.now b.now rigid.now sigma.now old.now sheet.old sheet.new }
+fn settle(asked: &Question<Restrains>, way: &Way) -> Option<Sheet>
+    requires few { length way.now.old.now ≤ 3 }
+    requires node { OnWay Restraint asked.now.first.now asked.now.second.now asked.now.rigid way.now.sigma.now way.now.old.now [] }
+    ensures { Searched result Restraint asked.now.first.now asked.now.second.now asked.now.rigid way.now.sigma.now way.now.old.now }
 {
-    let mut later = [Atom::BLANK; 19];
-    let n = put_later(a, b, old, sigma, &mut later);
-    if !is_open(a, b, sigma, rigid, old, &later[0..n]) {
-        return false;
+    let sigma = way.sigma;
+    let list = later(asked, way);
+    if !is_open(asked, way, &list) {
+        return None;
     }
-    let Some(early) = find_early(b, second_slots(sigma), rigid, &later[0..n]) else {
-        sized(a);
-        sized(b);
-        *sheet = found_sheet(a, b, sigma, rigid, old);
-        return true;
+    let Some(early) = find_early(asked.second, second_slots(sigma), &list) else {
+        sized(asked.first);
+        sized(asked.second);
+        return Some(found_sheet(asked, way));
     };
-    let head = b.head();
-    let mut given = [Atom::BLANK; 4];
-    put_under(head, &early.values, &mut given, 0);
-    for i in 0..36 {
-        if !is_choice(i, sigma, rigid, &given[0..head.len()]) {
-            continue;
-        }
-        let mut tau = *sigma;
-        replace(&mut tau, sigma[i], Term::Null(12 + early.spared));
-        if settle(a, b, &tau, rigid, old, sheet) {
-            return true;
+    let mut given: ArrayVec<Atom, 4> = ArrayVec::new();
+    push_each(asked.second.head(), &Under(&early.values), &mut given);
+    for (i, t) in sigma.iter().enumerate() {
+        if is_choice(*t, &sigma[..i], &asked.rigid, &given) {
+            let mut tau = *sigma;
+            replace(&mut tau, *t, Term::Null(12 + early.spared));
+            let refined = Way {
+                sigma: &tau,
+                ..*way
+            };
+            if let Some(sheet) = settle(asked, &refined) {
+                return Some(sheet);
+            }
         }
     }
-    false
-}
-
-/// The end of a way: some atom has to be new, and nothing may rule the restraint out.
-pub(crate) fn finish(
-    a: &Rule,
-    b: &Rule,
-    sigma: &[Term; 36],
-    rigid: &[bool; 36],
-    old: &[Atom],
-    sheet: &mut Sheet,
-) -> bool
-    requires { (FlagsAre rigid.now (rigid_both (meaning a.now) (meaning b.now))) × (Node (meaning a.now).head (shifted (meaning b.now)) rigid.now sigma.now old.now []) }
-    ensures { Searched result Restraint a.now b.now rigid.now sigma.now old.now sheet.old sheet.new }
-{
-    if old.len() >= b.head().len() {
-        return false;
-    }
-    settle(a, b, sigma, rigid, old, sheet)
+    None
 }

@@ -1,87 +1,111 @@
 // The search behind a question: each atom of the second rule that is gone through is left old, or unified with a head atom
 // of the first rule.
-ghost use Rattle.std.specs.Prelude.{◌≡◌, ◌+◌, ◌≤◌, [], length, take};
+ghost use Rattle.std.specs.Prelude.{◌≡◌, ◌≤◌, [], length, take};
 ghost use Rattle.rules.specs.Rules.{meaning};
+ghost use Rattle.reliances.specs.declared.sheet.Kind.{Kind};
 ghost use Rattle.reliances.specs.Unification.{FlagsAre};
-ghost use Rattle.reliances.specs.Following.{Node};
-ghost use Rattle.reliances.specs.Searching.{gone, rigid_for, Shut, Searched};
+ghost use Rattle.reliances.specs.Searching.{rigid_for, OnWay, Shut, Searched};
 
-use crate::unifier::unify_atoms;
-use crate::{Kind, Sheet, reliance_search, restraint_search};
+use crate::lists::push_all;
+use crate::substitution::rigid_slots;
+use crate::unifier::unify;
+use crate::{Kind, Sheet};
+use arrayvec::ArrayVec;
 use rules::{Atom, Rule, Term};
+use std::marker::PhantomData;
 
-// Whether the node can be given up.
-fn is_shut(
-    kind: Kind,
-    a: &Rule,
-    b: &Rule,
-    sigma: &[Term; 36],
-    rigid: &[bool; 36],
-    old: &[Atom],
-    rest: &[Atom],
-) -> bool
-    requires { (FlagsAre rigid.now (rigid_for kind (meaning a.now) (meaning b.now))) × (Node (meaning a.now).head (gone kind (meaning b.now)) rigid.now sigma.now old.now rest.now) }
-    ensures { Shut result kind a.now b.now rigid.now sigma.now old.now }
-{
-    match kind {
-        Kind::Positive => reliance_search::is_shut(a, b, sigma, rigid, old, rest),
-        Kind::Restraint => restraint_search::is_shut(a, b, sigma, rigid, old, rest),
-    }
+/// A relation between two rules.
+pub(crate) trait Relation {
+    const KIND: Kind;
+
+    ghost KIND: { Kind };
+
+    /// Whether no facts and matches that show the relation can follow the way.
+    fn is_shut(asked: &Question<Self>, way: &Way) -> bool
+        requires { let q = asked.now in OnWay KIND q.first.now q.second.now q.rigid way.now.sigma.now way.now.old.now way.now.rest.now }
+        ensures { let q = asked.now in Shut result KIND q.first.now q.second.now q.rigid way.now.sigma.now way.now.old.now };
+
+    /// The end of a way, where no atom remains.
+    fn finish(asked: &Question<Self>, way: &Way) -> Option<Sheet>
+        requires { let q = asked.now in OnWay KIND q.first.now q.second.now q.rigid way.now.sigma.now way.now.old.now [] }
+        ensures { let q = asked.now in Searched result KIND q.first.now q.second.now q.rigid way.now.sigma.now way.now.old.now };
 }
 
-// The end of a way, where no atom remains.
-fn finish(
-    kind: Kind,
-    a: &Rule,
-    b: &Rule,
-    sigma: &[Term; 36],
-    rigid: &[bool; 36],
-    old: &[Atom],
-    sheet: &mut Sheet,
-) -> bool
-    requires { (FlagsAre rigid.now (rigid_for kind (meaning a.now) (meaning b.now))) × (Node (meaning a.now).head (gone kind (meaning b.now)) rigid.now sigma.now old.now []) }
-    ensures { Searched result kind a.now b.now rigid.now sigma.now old.now sheet.old sheet.new }
-{
-    match kind {
-        Kind::Positive => reliance_search::finish(a, b, sigma, rigid, old, sheet),
-        Kind::Restraint => restraint_search::finish(a, b, sigma, rigid, old, sheet),
-    }
+/// Whether the relation holds between two rules, with the slots that keep their nulls while that is searched.
+pub(crate) struct Question<'a, R: Relation> {
+    pub first: &'a Rule,
+    pub second: &'a Rule,
+    pub rigid: [bool; 36],
+    of: PhantomData<R>,
+    ghost flags: { FlagsAre rigid (rigid_for R.KIND (meaning first.now) (meaning second.now)) },
 }
 
-/// Goes on from a node: the first `n` of `old` were left old, and `rest` remains.
-pub(crate) fn search(
-    kind: Kind,
-    a: &Rule,
-    b: &Rule,
-    rest: &[Atom],
-    sigma: &[Term; 36],
-    rigid: &[bool; 36],
-    old: &[Atom; 6],
-    n: usize,
-    sheet: &mut Sheet,
-) -> bool
-    requires { (n + length rest.now ≤ 6) × ((FlagsAre rigid.now (rigid_for kind (meaning a.now) (meaning b.now))) × (Node (meaning a.now).head (gone kind (meaning b.now)) rigid.now sigma.now (take n old.now) rest.now)) }
-    ensures { Searched result kind a.now b.now rigid.now sigma.now (take n old.now) sheet.old sheet.new }
-{
-    if rest.len() == 0 {
-        return finish(kind, a, b, sigma, rigid, &old[0..n], sheet);
-    }
-    if is_shut(kind, a, b, sigma, rigid, &old[0..n], rest) {
-        return false;
-    }
-    let heads = a.head();
-    for i in 0..heads.len() {
-        if heads[i].predicate != rest[0].predicate {
-            continue;
+impl<'a, R: Relation> Question<'a, R> {
+    pub(crate) fn new(first: &'a Rule, second: &'a Rule) -> Self
+        ensures { (result.first.now ≡ first.now) × (result.second.now ≡ second.now) }
+    {
+        Question {
+            first,
+            second,
+            rigid: rigid_slots(R::KIND, first, second),
+            of: PhantomData,
         }
-        let mut tau = *sigma;
-        if unify_atoms(&heads[i], &rest[0], &mut tau, rigid) {
-            if search(kind, a, b, &rest[1..], &tau, rigid, old, n, sheet) {
-                return true;
+    }
+}
+
+/// A way into a search: what the slots hold, the atoms that were left old, and those that remain.
+// That it leads to a node is a `requires`: a ghost field holds no fact that has several proofs, as which atom is which has.
+#[derive(Clone, Copy)]
+pub(crate) struct Way<'a> {
+    pub sigma: &'a [Term; 36],
+    pub old: &'a [Atom],
+    pub rest: &'a [Atom],
+}
+
+/// Goes on from the node that a way leads to.
+pub(crate) fn search<R: Relation>(asked: &Question<R>, way: &Way) -> Option<Sheet>
+    requires { let q = asked.now in OnWay R.KIND q.first.now q.second.now q.rigid way.now.sigma.now way.now.old.now way.now.rest.now }
+    ensures { let q = asked.now in Searched result R.KIND q.first.now q.second.now q.rigid way.now.sigma.now way.now.old.now }
+{
+    let Some((next, rest)) = way.rest.split_first() else {
+        return R::finish(asked, way);
+    };
+    if R::is_shut(asked, way) {
+        return None;
+    }
+    for head in asked.first.head() {
+        if let Some(sigma) = unify(head, next, way.sigma, &asked.rigid) {
+            let joined = Way {
+                sigma: &sigma,
+                rest,
+                ..*way
+            };
+            if let Some(sheet) = search(asked, &joined) {
+                return Some(sheet);
             }
         }
     }
-    let mut more = *old;
-    more[n] = rest[0];
-    search(kind, a, b, &rest[1..], sigma, rigid, &more, n + 1, sheet)
+    let mut more: ArrayVec<Atom, 6> = ArrayVec::new();
+    push_all(way.old, &mut more);
+    more.push(*next);
+    search(
+        asked,
+        &Way {
+            old: &more,
+            rest,
+            ..*way
+        },
+    )
+}
+
+/// The atoms in an array, and how many they are.
+pub(crate) fn counted<const N: usize>(atoms: &[Atom]) -> ([Atom; N], u8)
+    requires fits { length atoms.now ≤ N }
+    requires counts { length atoms.now ≤ 255 }
+    ensures count { result.1 ≡ length atoms.now }
+    ensures atoms { take result.1 result.0 ≡ atoms.now }
+{
+    let mut array = [Atom::BLANK; N];
+    array[..atoms.len()].copy_from_slice(atoms);
+    (array, atoms.len() as u8)
 }

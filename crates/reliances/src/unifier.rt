@@ -1,23 +1,19 @@
 // Unification. A substitution gives each of 36 slots a constant or a null, and a null's number is a slot; a null whose
 // slot is not rigid can be replaced by another term.
-ghost use Rattle.std.specs.Prelude.{◌≡◌, ◌≤◌, map};
+ghost use Rattle.std.specs.Prelude.{◌≡◌, ◌≤◌, Option, map};
+ghost use Rattle.std.specs.Option.{option_map};
 ghost use Rattle.rules.specs.Logic.{formula_of};
 ghost use Rattle.rules.specs.Matches.{value};
-ghost use Rattle.reliances.specs.Unification.{through, replaced, flexible, flags, unify, unify_all, unify_formulas, Gave};
+ghost use Rattle.reliances.specs.Unification.{through, replaced, flexible, flags, unify, unify_all, unify_formulas};
 
+use crate::substitution::is_flagged;
 use matches::look_up;
-use rules::{Atom, Term, first_terms};
+use rules::{Atom, Term};
 
 pub(crate) fn is_flexible(t: Term, rigid: &[bool]) -> bool
     ensures { result ≡ flexible (flags rigid.now) t }
 {
-    match t {
-        Term::Null(n) => {
-            let i = n as usize;
-            if i < rigid.len() { !rigid[i] } else { true }
-        }
-        _ => false,
-    }
+    matches!(t, Term::Null(n) if !is_flagged(rigid, n))
 }
 
 fn swapped(x: Term, s: Term, t: Term) -> Term
@@ -30,26 +26,9 @@ fn swapped(x: Term, s: Term, t: Term) -> Term
 pub(crate) fn replace(sigma: &mut [Term], s: Term, t: Term)
     ensures { sigma.new ≡ map (replaced s t) sigma.old }
 {
-    for i in 0..sigma.len() {
-        sigma[i] = swapped(sigma[i], s, t);
+    for x in sigma.iter_mut() {
+        *x = swapped(*x, s, t);
     }
-}
-
-fn unify_term(sigma: &mut [Term], rigid: &[bool], s: Term, t: Term) -> bool
-    ensures { Gave (unify (flags rigid.now) sigma.old s t) result sigma.new }
-{
-    if s == t {
-        return true;
-    }
-    if is_flexible(s, rigid) {
-        replace(sigma, s, t);
-        return true;
-    }
-    if is_flexible(t, rigid) {
-        replace(sigma, t, s);
-        return true;
-    }
-    false
 }
 
 // What the slots give a term whose variables begin at slot `from`.
@@ -63,33 +42,47 @@ pub(crate) fn slot_value(t: Term, sigma: &[Term], from: usize) -> Term
     }
 }
 
-fn unify_terms(a: &[Term], b: &[Term], sigma: &mut [Term], rigid: &[bool]) -> bool
-    ensures { Gave (unify_all (flags rigid.now) 0 12 a.now b.now sigma.old) result sigma.new }
+fn unify_term(sigma: &mut [Term], rigid: &[bool], s: Term, t: Term) -> Option<()>
+    ensures { option_map (λ _. sigma.new) result ≡ unify (flags rigid.now) sigma.old s t }
 {
-    if a.len() != b.len() {
-        return false;
+    if s == t {
+        return Some(());
     }
-    for j in 0..a.len() {
-        let s = slot_value(a[j], sigma, 0);
-        let t = slot_value(b[j], sigma, 12);
-        if !unify_term(sigma, rigid, s, t) {
-            return false;
-        }
+    if is_flexible(s, rigid) {
+        replace(sigma, s, t);
+    } else if is_flexible(t, rigid) {
+        replace(sigma, t, s);
+    } else {
+        return None;
     }
-    true
+    Some(())
 }
 
-/// Makes an atom of the first rule and one of the second equal, if that can be.
-pub(crate) fn unify_atoms(a: &Atom, b: &Atom, sigma: &mut [Term], rigid: &[bool]) -> bool
-    ensures { Gave (unify_formulas (flags rigid.now) 0 12 (formula_of a.now) (formula_of b.now) sigma.old) result sigma.new }
+fn unify_terms(a: &[Term], b: &[Term], sigma: &mut [Term], rigid: &[bool]) -> Option<()>
+    ensures { option_map (λ _. sigma.new) result ≡ unify_all (flags rigid.now) 0 12 a.now b.now sigma.old }
+{
+    if a.len() != b.len() {
+        return None;
+    }
+    for (s, t) in a.iter().zip(b) {
+        unify_term(
+            sigma,
+            rigid,
+            slot_value(*s, sigma, 0),
+            slot_value(*t, sigma, 12),
+        )?;
+    }
+    Some(())
+}
+
+/// The slots that make an atom of the first rule and one of the second equal, where some do.
+pub(crate) fn unify(a: &Atom, b: &Atom, sigma: &[Term; 36], rigid: &[bool]) -> Option<[Term; 36]>
+    ensures { result ≡ unify_formulas (flags rigid.now) 0 12 (formula_of a.now) (formula_of b.now) sigma.now }
 {
     if a.predicate != b.predicate {
-        return false;
+        return None;
     }
-    unify_terms(
-        first_terms(&a.terms, a.arity),
-        first_terms(&b.terms, b.arity),
-        sigma,
-        rigid,
-    )
+    let mut tau = *sigma;
+    unify_terms(a.args(), b.args(), &mut tau, rigid)?;
+    Some(tau)
 }

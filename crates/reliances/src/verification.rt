@@ -1,17 +1,18 @@
 // Whether a sheet meets the definition of the relation that it is to show: a test for each condition, and nothing is
 // taken from how the sheet was made.
-ghost use Rattle.std.specs.Prelude.{◌≡◌, ◌≤◌, true, ◌++◌, length, take, Decides};
-ghost use Rattle.rules.specs.Matches.{Facts, Unsatisfied, Applies, result as result_of};
+ghost use Rattle.std.specs.Prelude.{◌≡◌, ◌+◌, ◌≤◌, true, ◌++◌, length, Decides};
+ghost use Rattle.arrayvec.specs.ArrayVec.{array_vec_len};
+ghost use Rattle.rules.specs.Matches.{Unsatisfied, Applies, result as result_of};
 ghost use Rattle.rules.specs.Reliances.{ShowsReliance, ShowsRestraint};
 ghost use Rattle.rules.specs.Rules.{meaning};
 ghost use Rattle.matches.specs.Lists.{look, formulas};
 ghost use Rattle.reliances.specs.Sheets.{ShowsPositive, ShowsRestrained, Shows, Holds};
 
-use crate::lists::{first_eleven, first_nine, put, put_under};
+use crate::listed::Listed;
+use crate::lists::{Under, push_all, push_each};
 use crate::{Kind, Sheet};
-use matches::{
-    are_facts, has_alternative, is_alternative, is_fresh, is_match, is_satisfied, sized,
-};
+use arrayvec::ArrayVec;
+use matches::{has_alternative, is_alternative, is_fresh, is_match, is_satisfied, sized};
 use rules::{Atom, Rule, Term};
 
 /// Whether the sheet meets the definition of the relation, for the two rules. If so, the relation holds.
@@ -30,121 +31,118 @@ pub fn verify(kind: Kind, first: &Rule, second: &Rule, sheet: &Sheet) -> bool
 fn shows_positive(a: &Rule, b: &Rule, sheet: &Sheet) -> bool
     ensures { Decides result (ShowsPositive (meaning a.now) (meaning b.now) sheet.now) }
 {
-    if sheet.first_len > 11 || sheet.second_len != 0 {
+    let Some(before) = sheet.before() else {
         return false;
-    }
-    let before = first_eleven(&sheet.first, sheet.first_len);
-    if !are_facts(before) {
+    };
+    if sheet.second_len != 0 {
         return false;
     }
     sized(a);
-    is_new_match(a, b, before, &sheet.first_rule, &sheet.second_rule)
+    let first = Instance {
+        rule: a,
+        values: &sheet.first_rule,
+    };
+    let second = Instance {
+        rule: b,
+        values: &sheet.second_rule,
+    };
+    is_new_match(first, second, before)
 }
 
 fn shows_restraint(a: &Rule, b: &Rule, sheet: &Sheet) -> bool
     ensures { Decides result (ShowsRestrained (meaning a.now) (meaning b.now) sheet.now) }
 {
-    if sheet.first_len > 11 || sheet.second_len > 9 {
+    let Some(before) = sheet.before() else {
         return false;
-    }
-    let before = first_eleven(&sheet.first, sheet.first_len);
-    if !are_facts(before) {
+    };
+    let Some(besides) = sheet.besides() else {
         return false;
-    }
-    let more = first_nine(&sheet.second, sheet.second_len);
-    if !are_facts(more) {
-        return false;
-    }
+    };
     sized(a);
-    is_new_alternative(
-        a,
-        b,
-        before,
-        more,
-        &sheet.first_rule,
-        &sheet.second_rule,
-        &sheet.alternative,
-    )
+    let first = Instance {
+        rule: a,
+        values: &sheet.first_rule,
+    };
+    let second = Instance {
+        rule: b,
+        values: &sheet.second_rule,
+    };
+    is_new_alternative(first, second, before, besides, &sheet.alternative)
 }
 
-fn is_unsatisfied(rule: &Rule, h: &[Term], list: &[Atom]) -> bool
-    ensures { Decides result (Unsatisfied (meaning rule.now) (look h.now) (formulas list.now)) }
-{
-    if !is_match(rule, h, list) {
-        return false;
+/// A rule, and what its variables are given.
+#[derive(Clone, Copy)]
+struct Instance<'a> {
+    rule: &'a Rule,
+    values: &'a [Term],
+}
+
+impl Instance<'_> {
+    fn is_unsatisfied(self, facts: &[Atom]) -> bool
+        ensures { Decides result (Unsatisfied (meaning self.entry.rule.now) (look self.entry.values.now) (formulas facts.now)) }
+    {
+        is_match(self.rule, self.values, facts) && !is_satisfied(self.rule, self.values, facts)
     }
-    !is_satisfied(rule, h, list)
-}
 
-fn is_applied(rule: &Rule, h: &[Term], list: &[Atom]) -> bool
-    ensures { Decides result (Applies (meaning rule.now) (look h.now) (formulas list.now)) }
-{
-    if !is_unsatisfied(rule, h, list) {
-        return false;
+    fn is_applied(self, facts: &[Atom]) -> bool
+        ensures { Decides result (Applies (meaning self.entry.rule.now) (look self.entry.values.now) (formulas facts.now)) }
+    {
+        self.is_unsatisfied(facts) && is_fresh(self.rule, self.values, facts)
     }
-    is_fresh(rule, h, list)
-}
 
-// Whether `s` is an unsatisfied match of `b` once `a` is applied by `f`, and no match before.
-fn is_new_match(a: &Rule, b: &Rule, before: &[Atom], f: &[Term], s: &[Term]) -> bool
-    requires { (length before.now ≤ 11) × (Facts (formulas before.now)) }
-    ensures { Decides result (ShowsReliance (meaning a.now) (meaning b.now) (formulas before.now) (look f.now) (look s.now)) }
-{
-    if !is_applied(a, f, before) {
-        return false;
+    /// What the application results in.
+    fn result<const N: usize>(self, facts: &[Atom]) -> ArrayVec<Atom, N>
+        requires { length facts.now + 4 ≤ N }
+        ensures few { array_vec_len result ≤ length facts.now + 4 }
+        ensures is { formulas result.items ≡ result_of (meaning self.entry.rule.now) (look self.entry.values.now) (formulas facts.now) }
+    {
+        let mut all = ArrayVec::new();
+        push_all(facts, &mut all);
+        push_each(self.rule.head(), &Under(self.values), &mut all);
+        all
     }
-    if is_match(b, s, before) {
-        return false;
-    }
-    let mut all = [Atom::BLANK; 15];
-    let n = before.len();
-    let head = a.head();
-    put(before, &mut all, 0);
-    put_under(head, f, &mut all, n);
-    is_unsatisfied(b, s, &all[0..n + head.len()])
 }
 
-// Writes the facts on which the first rule is applied. Gives how many.
-fn put_later(b: &Rule, before: &[Atom], h: &[Term], more: &[Atom], into: &mut [Atom]) -> usize
-    requires { (length before.now ≤ 11) × ((length more.now ≤ 9) × (24 ≤ length into.old)) }
-    ensures few { result ≤ 24 }
-    ensures put { formulas (take result into.new) ≡ result_of (meaning b.now) (look h.now) (formulas before.now) ++ formulas more.now }
+/// Whether `second` is an unsatisfied match once `first` is applied, and no match before.
+fn is_new_match(first: Instance, second: Instance, before: Listed<11>) -> bool
+    ensures { Decides result (ShowsReliance (meaning first.entry.rule.now) (meaning second.entry.rule.now) (formulas before.entry.atoms.now) (look first.entry.values.now) (look second.entry.values.now)) }
 {
-    let head = b.head();
-    let n = before.len();
-    let m = n + head.len();
-    put(before, into, 0);
-    put_under(head, h, into, n);
-    put(more, into, m);
-    m + more.len()
+    first.is_applied(before.atoms)
+        && !is_match(second.rule, second.values, before.atoms)
+        && second.is_unsatisfied(&first.result::<15>(before.atoms))
 }
 
-// Whether `k` is an alternative for the application of `b` by `h` once `a` is applied by `f`, and there was none before.
+/// The facts on which the first rule is applied.
+fn later_facts(second: Instance, before: Listed<11>, besides: Listed<9>) -> ArrayVec<Atom, 24>
+    ensures { formulas result.items ≡ result_of (meaning second.entry.rule.now) (look second.entry.values.now) (formulas before.entry.atoms.now) ++ formulas besides.entry.atoms.now }
+{
+    let mut all = second.result(before.atoms);
+    push_all(besides.atoms, &mut all);
+    all
+}
+
+/// Whether `other` is an alternative for the application of `second` once `first` is applied, and there was none before.
 fn is_new_alternative(
-    a: &Rule,
-    b: &Rule,
-    before: &[Atom],
-    more: &[Atom],
-    f: &[Term],
-    h: &[Term],
-    k: &[Term],
+    first: Instance,
+    second: Instance,
+    before: Listed<11>,
+    besides: Listed<9>,
+    other: &[Term],
 ) -> bool
-    requires { (length before.now ≤ 11) × ((length more.now ≤ 9) × ((Facts (formulas before.now)) × (Facts (formulas more.now)))) }
-    ensures { Decides result (ShowsRestraint (meaning a.now) (meaning b.now) (formulas before.now) (result_of (meaning b.now) (look h.now) (formulas before.now) ++ formulas more.now) (look f.now) (look h.now) (look k.now)) }
+    ensures { Decides result (ShowsRestraint (meaning first.entry.rule.now) (meaning second.entry.rule.now) (formulas before.entry.atoms.now) (result_of (meaning second.entry.rule.now) (look second.entry.values.now) (formulas before.entry.atoms.now) ++ formulas besides.entry.atoms.now) (look first.entry.values.now) (look second.entry.values.now) (look other.now)) }
 {
-    sized(b);
-    if !is_applied(b, h, before) {
+    sized(second.rule);
+    if !second.is_applied(before.atoms) {
         return false;
     }
-    let mut all = [Atom::BLANK; 28];
-    let n = put_later(b, before, h, more, &mut all);
-    if !is_applied(a, f, &all[0..n]) {
-        return false;
-    }
-    if has_alternative(b, h, &all[0..n]) {
-        return false;
-    }
-    let head = a.head();
-    put_under(head, f, &mut all, n);
-    is_alternative(b, h, &all[0..n + head.len()], k)
+    let later = later_facts(second, before, besides);
+    let later = later.as_slice();
+    first.is_applied(later)
+        && !has_alternative(second.rule, second.values, later)
+        && is_alternative(
+            second.rule,
+            second.values,
+            &first.result::<28>(later),
+            other,
+        )
 }

@@ -4,5 +4,5 @@ use Rattle.rules.specs.Rules.{meaning}
 use Rattle.matches.specs.Lists.{look, formulas, Spares}
 use Rattle.reliances.proofs.restraint_search.find_early.Given as goal
 
-abbrev pub invariant-loop-v : goal.invariant-loop-v
-invariant-loop-v l = (v : ℕ) → v < l.v → (k : Assignment) → Spares (meaning l.b) (look l.h) (formulas l.list) v k → ⊥
+abbrev pub invariant-loop-spared : goal.invariant-loop-spared
+invariant-loop-spared l = (v : ℕ) → v < l.spared → (k : Assignment) → Spares (meaning l.b) (look l.h) (formulas l.list) v k → ⊥

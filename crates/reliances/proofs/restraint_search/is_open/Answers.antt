@@ -1,99 +1,58 @@
-use Rattle.std.proofs.Common.{◌-◌, length, take, refl, arith}
+use Rattle.std.proofs.Common.{length, take, refl, ◌∙◌}
 use Rattle.std.proofs.lemmas.Bool.Decides.{not_from_Decides}
 use Rattle.rules.proofs.Membership.{decides_false}
 use Rattle.matches.specs.Lists.{formulas}
 use Rattle.reliances.specs.Unification.{part}
-use Rattle.reliances.proofs.Sizes.{head_few}
-use Rattle.reliances.proofs.RestraintNodes.{enough, before_is, later_is, other_is, O, rigid_shut, second_shut, firsts_shut, first_shut, open_decided}
+use Rattle.reliances.proofs.Laying.{laid_one}
+use Rattle.reliances.proofs.RestraintNodes.{before_is, later_is, other_is, O, rigid_shut, second_shut, firsts_shut, first_shut, open_decided}
+use Rattle.reliances.proofs.restraint_search.is_open.Goals.{then-has_rigid-via-then-has_rigid, then-has_rigid-via-else-has_rigid+then-is_satisfied, then-has_rigid-via-else-has_rigid+else-is_satisfied+then-has_rigid-2, then-has_rigid-via-else-has_rigid+else-is_satisfied+else-has_rigid-2+then-is_satisfied-2}
 use Rattle.reliances.proofs.restraint_search.is_open.Goals as goal
-
-pub slice_bounds-before-end : goal.slice_bounds-before-end
-slice_bounds-before-end c =
-    let l = enough c.args.a.now c.args.b.now c.args.sigma.now c.args.old.now c.args.list.now c.body.result.now c.requires.1 c.body.ensures.same in
-    omega (arith, l)
 
 pub returns-then-has_rigid : goal.returns-then-has_rigid
 returns-then-has_rigid c =
-    let A = c.args.a.now in
-    let B = c.args.b.now in
-    let rs = c.args.rigid.now in
-    let σ = c.args.sigma.now in
-    let old = c.args.old.now in
+    let q = c.args.asked.now in
+    let A = q.first.now in
+    let B = q.second.now in
+    let σ = c.args.way.now.sigma.now in
+    let old = c.args.way.now.old.now in
     let list = c.args.list.now in
     let body = c.body.result.now in
-    let before = before_is A B σ old list body c.requires.1 c.body.ensures.same in
-    let later = later_is A B σ old list body c.requires.1 c.body.ensures.same in
-    decides_false (rigid_shut A B σ old rs c.requires.0 (part σ 0) (part σ 12) (formulas (take (length body - 0) list)) (formulas list) (O A B σ old rs c.requires.0) refl refl before later refl
-    (c.if-has_rigid.ensures.0 refl))
-
-pub returns-then-is_satisfied : goal.returns-then-is_satisfied
-returns-then-is_satisfied c =
-    let A = c.args.a.now in
-    let B = c.args.b.now in
-    let rs = c.args.rigid.now in
-    let σ = c.args.sigma.now in
-    let old = c.args.old.now in
-    let list = c.args.list.now in
-    let body = c.body.result.now in
-    let before = before_is A B σ old list body c.requires.1 c.body.ensures.same in
-    let later = later_is A B σ old list body c.requires.1 c.body.ensures.same in
-    decides_false (second_shut A B σ old rs c.requires.0 (part σ 0) c.second_slots-second.result.now (formulas (take (length body - 0) list)) (formulas list) (O A B σ old rs c.requires.0) refl c.second_slots-second.ensures before later refl
-    (c.if-is_satisfied.ensures.0 refl))
-
-pub returns-then-has_rigid-2 : goal.returns-then-has_rigid-2
-returns-then-has_rigid-2 c =
-    let A = c.args.a.now in
-    let B = c.args.b.now in
-    let rs = c.args.rigid.now in
-    let σ = c.args.sigma.now in
-    let old = c.args.old.now in
-    let list = c.args.list.now in
-    let body = c.body.result.now in
-    let before = before_is A B σ old list body c.requires.1 c.body.ensures.same in
-    let later = later_is A B σ old list body c.requires.1 c.body.ensures.same in
-    decides_false (firsts_shut A B σ old rs c.requires.0 (part σ 0) (part σ 12) (formulas (take (length body - 0) list)) (formulas list) (O A B σ old rs c.requires.0) refl refl before later refl
-    (c.if-has_rigid-2.ensures.0 refl))
-
-pub returns-then-is_satisfied-2 : goal.returns-then-is_satisfied-2
-returns-then-is_satisfied-2 c =
-    let A = c.args.a.now in
-    let B = c.args.b.now in
-    let rs = c.args.rigid.now in
-    let σ = c.args.sigma.now in
-    let old = c.args.old.now in
-    let list = c.args.list.now in
-    let body = c.body.result.now in
-    let before = before_is A B σ old list body c.requires.1 c.body.ensures.same in
-    let later = later_is A B σ old list body c.requires.1 c.body.ensures.same in
-    decides_false (first_shut A B σ old rs c.requires.0 c.first_slots.result.now (part σ 12) (formulas (take (length body - 0) list)) (formulas list) (O A B σ old rs c.requires.0) c.first_slots.ensures refl before later refl
-    (c.if-is_satisfied-2.ensures.0 refl))
-
-pub put_other-requires : goal.put_other-requires
-put_other-requires c =
-    let l = head_few c.args.b.now.parts c.head-head.result.now c.head-head.ensures.kept c.head-head.ensures.same in omega (arith, l)
-
-pub slice_bounds-some_spared-end : goal.slice_bounds-some_spared-end
-slice_bounds-some_spared-end c =
-    let l = head_few c.args.b.now.parts c.head-head.result.now c.head-head.ensures.kept c.head-head.ensures.same in omega (arith, l)
+    let before = before_is A B σ old list body c.requires c.body.ensures.same in
+    let later = later_is A B σ old list body c.requires c.body.ensures.same in
+    let F = formulas (take (length body) list) in
+    let k = c.second_slots-second in
+    let o = O A B σ old q.rigid q.flags in
+    decides_false (elim c.then-has_rigid.branch [
+      | then-has_rigid-via-then-has_rigid w ↦
+          rigid_shut A B σ old q.rigid q.flags (part σ 0) (part σ 12) F (formulas list) o refl refl before later refl (w.if-has_rigid.ensures.0 refl)
+      | then-has_rigid-via-else-has_rigid+then-is_satisfied w ↦
+          second_shut A B σ old q.rigid q.flags (part σ 0) k.result.now F (formulas list) o refl k.ensures before later refl (w.if-is_satisfied.ensures.0 refl)
+      | then-has_rigid-via-else-has_rigid+else-is_satisfied+then-has_rigid-2 w ↦
+          firsts_shut A B σ old q.rigid q.flags (part σ 0) (part σ 12) F (formulas list) o refl refl before later refl (w.if-has_rigid-2.ensures.0 refl)
+      | then-has_rigid-via-else-has_rigid+else-is_satisfied+else-has_rigid-2+then-is_satisfied-2 w ↦
+          first_shut A B σ old q.rigid q.flags w.first_slots.result.now (part σ 12) F (formulas list) o w.first_slots.ensures refl before later refl (w.if-is_satisfied-2.ensures.0 refl)
+    ])
 
 pub returns : goal.returns
 returns c =
-    let A = c.args.a.now in
-    let B = c.args.b.now in
-    let rs = c.args.rigid.now in
-    let σ = c.args.sigma.now in
-    let old = c.args.old.now in
+    let q = c.args.asked.now in
+    let A = q.first.now in
+    let B = q.second.now in
+    let σ = c.args.way.now.sigma.now in
+    let old = c.args.way.now.old.now in
     let list = c.args.list.now in
     let body = c.body.result.now in
-    let before = before_is A B σ old list body c.requires.1 c.body.ensures.same in
-    let later = later_is A B σ old list body c.requires.1 c.body.ensures.same in
-    let head = c.head-head.result.now in
-    let into = c.put_other.new.into in
-    open_decided A B σ old rs c.requires.0 c.first_slots.result.now c.second_slots-second.result.now (formulas (take (length body - 0) list)) (formulas list) (formulas (take (length head - 0) into))
-    c.first_slots.ensures c.second_slots-second.ensures before later
-    (other_is A B σ old rs c.requires.0 head into c.wide_slots.result.now c.head-head.ensures.same c.wide_slots.ensures c.put_other.ensures)
+    let before = before_is A B σ old list body c.requires c.body.ensures.same in
+    let later = later_is A B σ old list body c.requires c.body.ensures.same in
+    let head = c.head.result.now in
+    let others = c.deref.result.now in
+    let h = c.first_slots in
+    let k = c.second_slots-second in
+    open_decided A B σ old q.rigid q.flags h.result.now k.result.now (formulas (take (length body) list)) (formulas list) (formulas others) h.ensures k.ensures before later
+    (other_is A B σ old q.rigid q.flags head others c.wide_slots.result.now c.head.ensures.same c.wide_slots.ensures
+    (c.deref.ensures.0 ∙ laid_one _ c.push_each.new.into.items _ head c.new-other.ensures c.push_each.ensures))
     (not_from_Decides c.has_rigid.result c.has_rigid.ensures c.if-has_rigid.false)
     (not_from_Decides c.is_satisfied.result c.is_satisfied.ensures c.if-is_satisfied.false)
-    (not_from_Decides c.has_rigid-2.result c.has_rigid-2.ensures c.if-has_rigid-2.false)
-    (not_from_Decides c.is_satisfied-2.result c.is_satisfied-2.ensures c.if-is_satisfied-2.false)
+    (not_from_Decides c.has_rigid-else-is_satisfied.result c.has_rigid-else-is_satisfied.ensures c.if-has_rigid-2.false)
+    (not_from_Decides c.is_satisfied-else-has_rigid-2.result c.is_satisfied-else-has_rigid-2.ensures c.if-is_satisfied-2.false)
     c.some_spared.result c.some_spared.ensures

@@ -1,20 +1,9 @@
-use Rattle.std.proofs.Common.{sym, ◌∙◌, arith}
+use Rattle.std.proofs.Common.{rules, tests}
 use Rattle.std.proofs.lemmas.Bool.Decides.{Decides-at}
-use Rattle.rules.proofs.Loops.{some_more, some_stop, some_done}
-use Rattle.matches.specs.Matching.{same, stands}
-use Rattle.matches.proofs.Basics.{decides_stands}
+use Rattle.rules.proofs.Membership.{decides_in}
 use Rattle.reliances.proofs.restraint_search.is_slot.Goals as goal
-
-pub returns-then-is_same : goal.returns-then-is_same
-returns-then-is_same c =
-    Decides-at _ (stands c.args.t c.args.slots.now)
-    (sym (c.loop-i.invariant ∙ some_stop (same c.args.t) c.args.slots.now c.loop-i.i _ (omega arith) (sym c.is_same.ensures ∙ c.if-is_same.true)))
-    (decides_stands c.args.t c.args.slots.now)
-
-pub loop-i-preserved : goal.loop-i-preserved
-loop-i-preserved c = c.loop-i.invariant ∙ some_more (same c.args.t) c.args.slots.now c.loop-i.i _ (omega arith) (sym c.is_same.ensures ∙ c.if-is_same.false)
 
 pub returns : goal.returns
 returns c =
-    Decides-at _ (stands c.args.t c.args.slots.now)
-    (sym (c.loop-i.invariant ∙ some_done (same c.args.t) c.args.slots.now c.loop-i.i (omega arith))) (decides_stands c.args.t c.args.slots.now)
+    let t = c.args.t in
+    Decides-at c.contains.result _ c.contains.ensures.value (decides_in t _ (λ x. search (rules, tests)) c.args.slots.now)

@@ -1,9 +1,0 @@
-use Rattle.std.proofs.lemmas.Bool.Decides.{not_from_Decides}
-use Rattle.std.proofs.lemmas.Bool.{not-true}
-use Rattle.reliances.proofs.RestraintEnd.{none_open}
-use Rattle.reliances.proofs.restraint_search.is_shut.Goals as goal
-
-pub returns : goal.returns
-returns c = λ e.
-    none_open c.args.a.now c.args.b.now c.args.rigid.now c.requires.0 c.args.sigma.now c.args.old.now c.args.rest.now c.requires.1
-    (not_from_Decides c.is_open.result c.is_open.ensures (not-true c.is_open.result e))
