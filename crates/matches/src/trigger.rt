@@ -2,8 +2,9 @@ ghost use Rattle.std.specs.Prelude.{◌≡◌, Decides};
 ghost use Rattle.rules.specs.Bounds.{existential?};
 ghost use Rattle.rules.specs.Matches.{Match, Satisfied};
 ghost use Rattle.rules.specs.Rules.{meaning};
+ghost use Rattle.rules.specs.Text.{universal?};
 ghost use Rattle.matches.specs.Lists.{look, formulas};
-ghost use Rattle.matches.specs.Matching.{same, universal?, bound_slot};
+ghost use Rattle.matches.specs.Matching.{same, bound_slot};
 
 use crate::facts::are_held;
 use crate::filling::look_up;
