@@ -1,19 +1,17 @@
 -- What spares a term, and the tests of an alternative.
 -- Assumes nothing.
-use Rattle.std.proofs.Common.{◌≡◌, ℕ, ◌<◌, Bool, true, false, not, ◌⊎◌, List, [], ◌∷◌, map, get_or, Some, None, Decides, Option, sym, refl, ap, ◌∙◌, subst, inl, inr, ⊎_elim, arith}
+use Rattle.std.proofs.Common.{◌≡◌, ℕ, ◌<◌, Bool, true, false, not, ◌⊎◌, List, [], ◌∷◌, map, Some, None, Decides, sym, refl, ap, ◌∙◌, subst, inl, inr, ⊎_elim}
 use Rattle.std.proofs.lemmas.Bool.Decides.{Decides-and, Decides-not, Decides-like}
 use Rattle.std.proofs.lemmas.Bool.{false≢true, both_ways}
 use Rattle.rules.specs.declared.Term.{Term}
-use Rattle.rules.specs.declared.Term.TheVariants.{Constant, Variable, Null}
-use Rattle.rules.specs.Logic.{In, Each, Formula, Implication, terms_of, Universal, Existential}
+use Rattle.rules.specs.Logic.{In, Each, Formula, Implication, Universal, Existential}
 use Rattle.rules.specs.Matches.{Assignment, under, Stands, Satisfied}
 use Rattle.rules.specs.Reliances.{Alternative}
-use Rattle.rules.proofs.Membership.{decides_false}
 use Rattle.matches.specs.Lists.{Spares, HasAlternative}
-use Rattle.matches.specs.Matching.{same, stands, stands_in, held?, Slots, bound, filled, known, solve, satisfied?, sparing, spared?, alternative?, matches?, agree_term?, agrees?, absent_term?, chosen?}
-use Rattle.matches.proofs.Basics.{in_map, from_map, in_terms, from_terms, decides_stands, decides_terms, decides_some_terms, decides_same, decides_stands_in}
+use Rattle.matches.specs.Matching.{same, stands, stands_in, Slots, bound, filled, solve, sparing, matches?, spared?, alternative?, agrees?, chosen?}
+use Rattle.matches.proofs.Basics.{in_map, from_map, in_terms, from_terms, decides_stands, decides_same, decides_stands_in}
 use Rattle.matches.proofs.Bounded.{Bounded}
-use Rattle.matches.proofs.Literal.{extends, extends_none, decides_satisfied, decides_matches, is_slots, slot_none}
+use Rattle.matches.proofs.Literal.{extends, extends_none, decides_satisfied, decides_matches, decides_universals, decides_some_existential}
 
 sparing_in : (t : Term) (x a : Formula) (rest : List Formula) (b : Bool) → ((x ≡ a) × (b ≡ false)) ⊎ In x (sparing t rest) → In x (elim b [ true ↦ sparing t rest | false ↦ a ∷ sparing t rest ])
 sparing_in t x a rest true (inl p) = absurd (false≢true (sym p.1))
@@ -80,81 +78,21 @@ module _ (R : Implication) (b : Bounded R) (h : Assignment) (S : List Formula) (
   pub spared_none : solve (sparing (h v) S) R.head (bound R h) ≡ None → (k : Assignment) → Spares R h S v k → ⊥
   spared_none e k s = extends_none R b h (sparing (h v) S) e k s.agrees (spares_to R h S v k s)
 
-module _ (R : Implication) (b : Bounded R) (h : Assignment) (S : List Formula) where
-  abbrev Spared : Term → Type 0
-  Spared t = (v : ℕ) × (t ≡ Variable v) × (Universal R v → ⊥) × Satisfied R h (sparing (h v) S)
+pub decides_alternative : (R : Implication) (b : Bounded R) (h : Assignment) (S : List Formula) → Decides (alternative? R h S) (HasAlternative R h S)
+decides_alternative R b h S =
+    Decides-like (alternative? R h S)
+    (λ s. let z = s.2 in (z.extension, is_alternative R h S s.0 z.extension (spares_from R h S s.0 z.extension s.1 z.agrees z.present)))
+    (λ s.
+    let a = s.1 in
+    (a.spared, a.given, record { extension = s.0; agrees = a.agrees; present = spares_to R h S a.spared s.0 (its_spared R h S s.0 a) }))
+    (decides_some_existential R b h (spared? R h S) (λ v. Satisfied R h (sparing (h v) S)) (λ v. decides_satisfied R b h (sparing (h v) S)))
 
-  spared_at : (w : ℕ) (o : Option Term) → get_or (bound R h) w None ≡ o
-      → Decides (elim (held? o) [ true ↦ false | false ↦ known (solve (sparing (h w) S) R.head (bound R h)) ]) (Spared (Variable w))
-  spared_at w (Some t) e = decides_false (λ s. s.2 (subst (λ z. Universal R z) (let y : w ≡ s.0 = cc s.1 in y) ((is_slots R b h).from w t e).0))
-  spared_at w None e =
-      Decides-like (satisfied? R h (sparing (h w) S))
-      (λ s. (w, refl, slot_none R b h w e, s))
-      (λ s. subst (λ z. Satisfied R h (sparing (h z) S)) (let y : s.0 ≡ w = cc s.1 in y) s.3)
-      (decides_satisfied R b h (sparing (h w) S))
-
-  decides_spared : (t : Term) → Decides (spared? R.head (bound R h) h S t) (Spared t)
-  decides_spared (Constant c) = decides_false (λ s. let z : ◌≡◌ {A = ℕ} 0 1 = cc s.1 in omega arith)
-  decides_spared (Null c) = decides_false (λ s. let z : ◌≡◌ {A = ℕ} 0 1 = cc s.1 in omega arith)
-  decides_spared (Variable w) = spared_at w (get_or (bound R h) w None) refl
-
-  to_alternative : ((t : Term) × In t (terms_of R.head) × Spared t) → HasAlternative R h S
-  to_alternative s =
-      let z = s.2.3 in
-      let given : Existential R s.2.0 = (subst (λ t. In t (terms_of R.head)) s.2.1 s.1, s.2.2) in
-      (z.extension, is_alternative R h S s.2.0 z.extension (spares_from R h S s.2.0 z.extension given z.agrees z.present))
-
-  from_alternative : HasAlternative R h S → ((t : Term) × In t (terms_of R.head) × Spared t)
-  from_alternative s =
-      let a = s.1 in
-      let z = spares_to R h S a.spared s.0 (its_spared R h S s.0 a) in
-      (Variable a.spared, a.given.0, (a.spared, refl, a.given.1, record { extension = s.0; agrees = a.agrees; present = z }))
-
-  pub decides_alternative : Decides (alternative? R h S) (HasAlternative R h S)
-  decides_alternative =
-      Decides-like (alternative? R h S) to_alternative from_alternative
-      (decides_some_terms (spared? R.head (bound R h) h S) Spared decides_spared R.head)
-
-module _ (R : Implication) (b : Bounded R) (h k : Assignment) (S : List Formula) where
-  abbrev Agree : Term → Type 0
-  Agree t = (v : ℕ) → t ≡ Variable v → k v ≡ h v
-
-  decides_agree : (t : Term) → Decides (agree_term? h k t) (Agree t)
-  decides_agree (Constant c) = ((λ e v x. absurd (let z : ◌≡◌ {A = ℕ} 0 1 = cc in omega arith)), λ f. refl)
-  decides_agree (Null c) = ((λ e v x. absurd (let z : ◌≡◌ {A = ℕ} 0 1 = cc in omega arith)), λ f. refl)
-  decides_agree (Variable w) =
-      Decides-like (same (k w) (h w)) (λ e v x. let y : w ≡ v = cc in ap k (sym y) ∙ e ∙ ap h y) (λ f. f w refl) (decides_same (k w) (h w))
-
-  abbrev T : List Formula
-  T = map (under k) R.head
-
-  abbrev Absent : Term → Type 0
-  Absent t = (v : ℕ) × (t ≡ Variable v) × (Universal R v → ⊥) × (Stands (h v) T → ⊥)
-
-  absent_at : (w : ℕ) (o : Option Term) → get_or (bound R h) w None ≡ o → Decides (elim (held? o) [ true ↦ false | false ↦ not (stands_in (h w) T) ]) (Absent (Variable w))
-  absent_at w (Some t) e = decides_false (λ s. s.2 (subst (λ z. Universal R z) (let y : w ≡ s.0 = cc s.1 in y) ((is_slots R b h).from w t e).0))
-  absent_at w None e =
-      Decides-like (not (stands_in (h w) T))
-      (λ s. (w, refl, slot_none R b h w e, s))
-      (λ s i. s.3 (subst (λ z. Stands (h z) T) (let y : w ≡ s.0 = cc s.1 in y) i))
-      (Decides-not (stands_in (h w) T) (decides_stands_in (h w) T))
-
-  decides_absent : (t : Term) → Decides (absent_term? (bound R h) h T t) (Absent t)
-  decides_absent (Constant c) = decides_false (λ s. let z : ◌≡◌ {A = ℕ} 0 1 = cc s.1 in omega arith)
-  decides_absent (Null c) = decides_false (λ s. let z : ◌≡◌ {A = ℕ} 0 1 = cc s.1 in omega arith)
-  decides_absent (Variable w) = absent_at w (get_or (bound R h) w None) refl
-
-  pub decides_chosen : Decides (chosen? R h k S) (Alternative R h S k)
-  decides_chosen =
-      Decides-like (chosen? R h k S)
-      (λ e. record {
-        agrees = λ v u. e.0 (Variable v) u v refl;
-        present = e.1.0;
-        spared = e.1.1.2.0;
-        given = (subst (λ t. In t (terms_of R.head)) e.1.1.2.1 e.1.1.1, e.1.1.2.2);
-        absent = e.1.1.2.3;
-      })
-      (λ w. ((λ t i v x. w.agrees v (subst (λ z. In z (terms_of R.body)) x i)), (w.present, (Variable w.spared, w.given.0, (w.spared, refl, w.given.1, w.absent)))))
-      (Decides-and (agrees? R.body h k) _ (decides_terms (agree_term? h k) Agree decides_agree R.body)
-      (Decides-and (matches? R.head k S) _ (decides_matches R.head k S)
-      (decides_some_terms (absent_term? (bound R h) h T) Absent decides_absent R.head)))
+pub decides_chosen : (R : Implication) (b : Bounded R) (h k : Assignment) (S : List Formula) → Decides (chosen? R h k S) (Alternative R h S k)
+decides_chosen R b h k S =
+    Decides-like (chosen? R h k S)
+    (λ e. record { agrees = e.0; present = e.1.0; spared = e.1.1.0; given = e.1.1.1; absent = e.1.1.2 })
+    (λ w. (w.agrees, (w.present, (w.spared, w.given, w.absent))))
+    (Decides-and (agrees? R h k) _ (decides_universals R b h (λ v. same (h v) (k v)) (λ v. k v ≡ h v) (λ v. Decides-like (same (h v) (k v)) sym sym (decides_same (h v) (k v))))
+    (Decides-and (matches? R.head k S) _ (decides_matches R.head k S)
+    (decides_some_existential R b h (λ v. not (stands_in (h v) (map (under k) R.head))) (λ v. Stands (h v) (map (under k) R.head) → ⊥)
+    (λ v. Decides-not (stands_in (h v) (map (under k) R.head)) (decides_stands_in (h v) (map (under k) R.head))))))

@@ -1,15 +1,17 @@
 -- What stands in a list that is mapped or put together, and tests of lists that decide.
 -- Assumes nothing.
-use Rattle.std.proofs.Common.{◌≡◌, ℕ, suc, ◌<◌, Bool, true, false, ◌&&◌, ◌||◌, eqb, ◌⊎◌, List, [], ◌∷◌, map, length, get_or, Decides, sym, refl, ap, subst, inl, inr, ⊎_elim, arith}
-use Rattle.std.proofs.lemmas.Bool.Decides.{Decides-eqb, Decides-and, Decides-or, Decides-like, Decides-at}
+use Rattle.std.proofs.Common.{◌≡◌, ℕ, suc, ◌<◌, Bool, true, false, ◌||◌, ◌⊎◌, List, [], ◌∷◌, map, length, get_or, Decides, sym, refl, ap, subst, inl, inr, ⊎_elim, arith}
+use Rattle.std.proofs.lemmas.Bool.Decides.{Decides-or, Decides-like}
 use Rattle.std.proofs.lemmas.Bool.{false≢true}
 use Rattle.rules.specs.declared.Term.{Term}
 use Rattle.rules.specs.declared.Term.TheVariants.{Constant, Variable, Null}
 use Rattle.rules.specs.Logic.{In, Each, Formula, terms_of}
-use Rattle.rules.specs.Bounds.{every, some}
+use Rattle.rules.specs.Bounds.{some}
 use Rattle.rules.specs.Matches.{Assignment, value, under, Stands}
-use Rattle.rules.proofs.Membership.{in_left, in_right, in_either, decides_false, decides_every, decides_in}
-use Rattle.matches.specs.Matching.{same, sames, alike, stands, stands_in, holds}
+use Rattle.rules.specs.Same.{same_formula?}
+use Rattle.rules.proofs.Alike.{same_term_decided, same_formula_decided}
+use Rattle.rules.proofs.Membership.{in_left, in_right, in_either, decides_false, decides_in}
+use Rattle.matches.specs.Matching.{same, stands, stands_in, holds}
 
 pub in_map : {A B : Type 0} (f : A → B) (x : A) (xs : List A) → In x xs → In (f x) (map f xs)
 in_map f x [] i = i
@@ -51,15 +53,7 @@ decides_some {A} p P d (x ∷ xs) =
     there s = elim s.1 [ inl e ↦ inl (subst P e s.2) | inr j ↦ inr (s.0, j, s.2) ]
 
 pub decides_same : (s t : Term) → Decides (same s t) (s ≡ t)
-decides_same (Constant a) (Constant b) = Decides-like (eqb a b) (ap Constant) (λ e. cc) (Decides-eqb a b)
-decides_same (Constant a) (Variable b) = decides_false (λ e. let z : ◌≡◌ {A = ℕ} 0 1 = cc in omega arith)
-decides_same (Constant a) (Null b) = decides_false (λ e. let z : ◌≡◌ {A = ℕ} 0 1 = cc in omega arith)
-decides_same (Variable a) (Constant b) = decides_false (λ e. let z : ◌≡◌ {A = ℕ} 0 1 = cc in omega arith)
-decides_same (Variable a) (Variable b) = Decides-like (eqb a b) (ap Variable) (λ e. cc) (Decides-eqb a b)
-decides_same (Variable a) (Null b) = decides_false (λ e. let z : ◌≡◌ {A = ℕ} 0 1 = cc in omega arith)
-decides_same (Null a) (Constant b) = decides_false (λ e. let z : ◌≡◌ {A = ℕ} 0 1 = cc in omega arith)
-decides_same (Null a) (Variable b) = decides_false (λ e. let z : ◌≡◌ {A = ℕ} 0 1 = cc in omega arith)
-decides_same (Null a) (Null b) = Decides-like (eqb a b) (ap Null) (λ e. cc) (Decides-eqb a b)
+decides_same = same_term_decided
 
 pub heads_same : {A : Type 0} {x y : A} {xs ys : List A} → x ∷ xs ≡ y ∷ ys → x ≡ y
 heads_same e = cc
@@ -73,61 +67,24 @@ nil-cons e = let z : ◌≡◌ {A = ℕ} 0 1 = cc in omega arith
 pub cons_path : {A : Type 0} {x y : A} {xs ys : List A} → x ≡ y → xs ≡ ys → x ∷ xs ≡ y ∷ ys
 cons_path e f = λ i. e i ∷ f i
 
-pub decides_sames : (ss ts : List Term) → Decides (sames ss ts) (ss ≡ ts)
-decides_sames [] [] = (λ e. refl, λ e. refl)
-decides_sames [] (t ∷ ts) = decides_false nil-cons
-decides_sames (s ∷ ss) [] = decides_false (λ e. nil-cons (sym e))
-decides_sames (s ∷ ss) (t ∷ ts) =
-    Decides-like (same s t && sames ss ts) (λ b. cons_path b.0 b.1) (λ e. (heads_same e, tails_same e))
-    (Decides-and (same s t) (sames ss ts) (decides_same s t) (decides_sames ss ts))
-
 pub formula_path : {a b : Formula} → a.predicate ≡ b.predicate → a.terms ≡ b.terms → a ≡ b
 formula_path e f = λ i. record { predicate = e i; terms = f i }
-
--- `elim` computes one case only, and `&&` both sides
-pub and_lazy : (b c : Bool) → ◌≡◌ {A = Bool} (elim b [ true ↦ c | false ↦ false ]) (b && c)
-and_lazy true c = refl
-and_lazy false c = refl
-
-pub decides_alike : (a b : Formula) → Decides (alike a b) (a ≡ b)
-decides_alike a b =
-    Decides-at (alike a b) (eqb a.predicate b.predicate && sames a.terms b.terms) (and_lazy (eqb a.predicate b.predicate) (sames a.terms b.terms))
-    (Decides-like (eqb a.predicate b.predicate && sames a.terms b.terms)
-    (λ c. formula_path c.0 c.1) (λ e. (ap (λ (x : Formula). x.predicate) e, ap (λ (x : Formula). x.terms) e))
-    (Decides-and (eqb a.predicate b.predicate) (sames a.terms b.terms) (Decides-eqb a.predicate b.predicate) (decides_sames a.terms b.terms)))
 
 pub decides_stands : (t : Term) (ts : List Term) → Decides (stands t ts) (In t ts)
 decides_stands t ts = decides_in t (same t) (decides_same t) ts
 
 pub decides_holds : (a : Formula) (F : List Formula) → Decides (holds a F) (In a F)
-decides_holds a F = decides_in a (alike a) (decides_alike a) F
+decides_holds a F = decides_in a (λ b. same_formula? b a) (λ b. Decides-like (same_formula? b a) sym sym (same_formula_decided b a)) F
 
 pub decides_stands_in : (t : Term) (F : List Formula) → Decides (stands_in t F) (Stands t F)
 decides_stands_in t F =
     Decides-like (stands_in t F) (λ s. in_terms t s.0 F s.1 s.2) (from_terms t F)
     (decides_some (λ a. stands t a.terms) (λ a. In t a.terms) (λ a. decides_stands t a.terms) F)
 
-pub decides_terms : (p : Term → Bool) (P : Term → Type 0) → ((t : Term) → Decides (p t) (P t)) → (F : List Formula)
-    → Decides (every (λ a. every p a.terms) F) (Each P (terms_of F))
-decides_terms p P d F =
-    Decides-like (every (λ a. every p a.terms) F)
-    (λ e t i. let r = from_terms t F i in e r.0 r.1 t r.2)
-    (λ e a i t j. e t (in_terms t a F i j))
-    (decides_every (λ a. every p a.terms) (λ a. Each P a.terms) (λ a. decides_every p P d a.terms) F)
-
 -- what is decided holds or not
 pub either : {P : Type 0} (b : Bool) → Decides b P → P ⊎ (P → ⊥)
 either true d = inl (d.0 refl)
 either false d = inr (λ p. false≢true (d.1 p))
-
--- what stands in some formula and passes
-pub decides_some_terms : (p : Term → Bool) (P : Term → Type 0) → ((t : Term) → Decides (p t) (P t)) → (F : List Formula)
-    → Decides (some (λ a. some p a.terms) F) ((t : Term) × In t (terms_of F) × P t)
-decides_some_terms p P d F =
-    Decides-like (some (λ a. some p a.terms) F)
-    (λ s. (s.2.0, in_terms s.2.0 s.0 F s.1 s.2.1, s.2.2))
-    (λ s. let r = from_terms s.0 F s.1 in (r.0, r.1, (s.0, r.2, s.2)))
-    (decides_some (λ a. some p a.terms) (λ a. (t : Term) × In t a.terms × P t) (λ a. decides_some p P d a.terms) F)
 
 pub map_same : {A B : Type 0} (f g : A → B) (xs : List A) → ((x : A) → In x xs → f x ≡ g x) → map f xs ≡ map g xs
 map_same f g [] e = refl

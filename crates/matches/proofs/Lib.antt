@@ -1,7 +1,7 @@
 pub mod Basics
 pub mod Bounded
+pub mod Below
 pub mod Matching
 pub mod Literal
 pub mod Alternatives
 pub mod Steps
-pub mod Judged

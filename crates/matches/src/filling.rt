@@ -1,5 +1,6 @@
 // Variables are filled in as an assignment says.
-ghost use Rattle.std.specs.Prelude.{◌≡◌, map};
+ghost use Rattle.std.specs.Prelude.{◌≡◌, ◌<◌, ℕ, slice_index_or, length};
+ghost use Rattle.rules.specs.declared.Term.TheVariants.{Constant};
 ghost use Rattle.rules.specs.Logic.{formula_of};
 ghost use Rattle.rules.specs.Matches.{value, under};
 ghost use Rattle.matches.specs.Lists.{look, under_atom};
@@ -10,7 +11,7 @@ use rules::{Atom, Term};
 pub fn look_up(h: &[Term], i: usize) -> Term
     ensures { result ≡ look h.now i }
 {
-    if i < h.len() { h[i] } else { Term::Constant(0) }
+    h.get(i).copied().unwrap_or(Term::Constant(0))
 }
 
 /// The atom with its variables as `h` says.
@@ -19,9 +20,8 @@ pub fn atom_under(a: &Atom, h: &[Term]) -> Atom
     ensures whole { result ≡ under_atom (look h.now) a.now }
 {
     Atom {
-        predicate: a.predicate,
-        arity: a.arity,
-        terms: values_of(&a.terms, h),
+        terms: values_of(a.terms, h),
+        ..*a
     }
 }
 
@@ -34,13 +34,9 @@ fn value_of(t: Term, h: &[Term]) -> Term
     }
 }
 
-fn values_of(terms: &[Term; 4], h: &[Term]) -> [Term; 4]
-    ensures { result ≡ map (value (look h.now)) terms.now }
+fn values_of(terms: [Term; 4], h: &[Term]) -> [Term; 4]
+    ensures long { length result ≡ length terms }
+    ensures each { (i : ℕ) → i < length terms → slice_index_or result i (Constant 0) ≡ value (look h.now) (slice_index_or terms i (Constant 0)) }
 {
-    [
-        value_of(terms[0], h),
-        value_of(terms[1], h),
-        value_of(terms[2], h),
-        value_of(terms[3], h),
-    ]
+    terms.map(|t| value_of(t, h))
 }

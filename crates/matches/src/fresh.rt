@@ -1,102 +1,50 @@
-// Whether an assignment gives the existential variables nulls of their own.
+// Whether the values give the existential variables nulls of their own.
 ghost use Rattle.std.specs.Prelude.{◌≡◌, Decides};
 ghost use Rattle.rules.specs.Bounds.{every};
 ghost use Rattle.rules.specs.Matches.{Fresh};
 ghost use Rattle.rules.specs.Rules.{meaning};
 ghost use Rattle.matches.specs.Lists.{look, formulas};
-ghost use Rattle.matches.specs.Matching.{apart?, fresh_term?};
+ghost use Rattle.matches.specs.Matching.{existentials, is_null, apart?, fresh_at?};
 
-use crate::facts::{is_in, is_null, same_term};
-use crate::filling::look_up;
-use crate::maps::{bound_slots, is_bound};
-use rules::{Atom, Rule, Term, first_terms};
+use crate::Trigger;
+use crate::facts::is_in;
+use rules::Term;
 
-/// Whether `h` gives each existential variable of the rule a null of its own, which stands nowhere in the facts.
-pub fn is_fresh(rule: &Rule, h: &[Term], list: &[Atom]) -> bool
-    ensures { Decides result (Fresh (meaning rule.now) (look h.now) (formulas list.now)) }
-{
-    let p = bound_slots(rule.body(), h);
-    let head = rule.head();
-    are_fresh(head, head, &p, h, list)
-}
-
-// A variable that is bound is universal: only the others are tested.
-fn are_fresh(atoms: &[Atom], head: &[Atom], p: &[Option<Term>], h: &[Term], list: &[Atom]) -> bool
-    ensures { result ≡ every (λ a. every (fresh_term? (formulas head.now) p.now (look h.now) (formulas list.now)) a.terms) (formulas atoms.now) }
-{
-    for i in 0..atoms.len() {
-        let a = &atoms[i];
-        if !all_fresh(first_terms(&a.terms, a.arity), head, p, h, list) {
-            return false;
-        }
+impl Trigger<'_> {
+    /// Whether each existential variable is given a null of its own, which stands nowhere in the facts.
+    pub fn is_fresh(self) -> bool
+        ensures { Decides result (Fresh (meaning self.entry.rule.now) (look self.entry.values.now) (formulas self.entry.facts.now)) }
+    {
+        (0..12)
+            .filter(|v| self.is_existential(*v))
+            .all(|v| self.is_fresh_at(v))
     }
-    true
-}
 
-fn all_fresh(terms: &[Term], head: &[Atom], p: &[Option<Term>], h: &[Term], list: &[Atom]) -> bool
-    ensures { result ≡ every (fresh_term? (formulas head.now) p.now (look h.now) (formulas list.now)) terms.now }
-{
-    for i in 0..terms.len() {
-        if !fresh_term(terms[i], head, p, h, list) {
-            return false;
-        }
+    fn is_fresh_at(self, v: u16) -> bool
+        ensures { result ≡ fresh_at? (meaning self.entry.rule.now) (look self.entry.values.now) (formulas self.entry.facts.now) v }
+    {
+        is_null(self.value(v)) && !is_in(self.value(v), self.facts) && self.is_own(v)
     }
-    true
-}
 
-fn fresh_term(t: Term, head: &[Atom], p: &[Option<Term>], h: &[Term], list: &[Atom]) -> bool
-    ensures { result ≡ fresh_term? (formulas head.now) p.now (look h.now) (formulas list.now) t }
-{
-    match t {
-        Term::Variable(n) => {
-            let v = n as usize;
-            if is_bound(p, v) {
-                return true;
-            }
-            let x = look_up(h, v);
-            is_null(x) && !is_in(x, list) && are_apart(head, p, h, v)
-        }
-        _ => true,
+    /// Whether no other existential variable is given the same.
+    fn is_own(self, v: u16) -> bool
+        ensures { result ≡ every (apart? (look self.entry.values.now) v) (existentials (meaning self.entry.rule.now)) }
+    {
+        (0..12)
+            .filter(|w| self.is_existential(*w))
+            .all(|w| self.is_apart(v, w))
+    }
+
+    /// Whether the variables are one, or given two terms.
+    fn is_apart(self, v: u16, w: u16) -> bool
+        ensures { result ≡ apart? (look self.entry.values.now) v w }
+    {
+        v == w || !self.gives(v, self.value(w))
     }
 }
 
-fn are_apart(atoms: &[Atom], p: &[Option<Term>], h: &[Term], v: usize) -> bool
-    ensures { result ≡ every (λ a. every (apart? p.now (look h.now) v) a.terms) (formulas atoms.now) }
+fn is_null(t: Term) -> bool
+    ensures { result ≡ is_null t }
 {
-    for i in 0..atoms.len() {
-        let a = &atoms[i];
-        if !all_apart(first_terms(&a.terms, a.arity), p, h, v) {
-            return false;
-        }
-    }
-    true
-}
-
-fn all_apart(terms: &[Term], p: &[Option<Term>], h: &[Term], v: usize) -> bool
-    ensures { result ≡ every (apart? p.now (look h.now) v) terms.now }
-{
-    for i in 0..terms.len() {
-        if !is_apart(terms[i], p, h, v) {
-            return false;
-        }
-    }
-    true
-}
-
-fn is_apart(t: Term, p: &[Option<Term>], h: &[Term], v: usize) -> bool
-    ensures { result ≡ apart? p.now (look h.now) v t }
-{
-    match t {
-        Term::Variable(n) => {
-            let w = n as usize;
-            if is_bound(p, w) {
-                true
-            } else if same_term(look_up(h, v), look_up(h, w)) {
-                v == w
-            } else {
-                true
-            }
-        }
-        _ => true,
-    }
+    matches!(t, Term::Null(_))
 }

@@ -3,16 +3,18 @@
 #![tactic(auto)]
 
 mod alternative;
+mod calls;
 mod facts;
 mod filling;
 mod fresh;
-mod judge;
-mod maps;
 mod sizes;
+mod slots;
+mod trigger;
 
-pub use alternative::{find_alternative, has_alternative, is_alternative};
+pub use calls::{
+    find_alternative, has_alternative, is_alternative, is_fresh, is_match, is_satisfied,
+};
 pub use facts::{are_facts, stands_in};
 pub use filling::{atom_under, look_up};
-pub use fresh::is_fresh;
-pub use judge::{is_match, is_satisfied};
 pub use sizes::sized;
+pub use trigger::Trigger;

@@ -1,10 +1,9 @@
 // How many terms the atoms of a rule have. Nothing is computed: a rule keeps the arities, and an array has all its terms.
-ghost use Rattle.std.specs.Prelude.{◌≡◌, length};
 ghost use Rattle.rules.specs.Logic.{Each};
 ghost use Rattle.rules.specs.Rules.{meaning};
 ghost use Rattle.matches.specs.Lists.{Whole, Sizes};
 
-use rules::{Atom, Rule, Term};
+use rules::{Atom, Rule};
 
 /// Each atom of a rule has one to four terms.
 pub fn sized(rule: &Rule)
@@ -17,11 +16,11 @@ pub fn sized(rule: &Rule)
 fn whole_atoms(atoms: &[Atom])
     ensures { Each Whole atoms.now }
 {
-    for i in 0..atoms.len() {
-        four_terms(&atoms[i].terms);
+    for a in atoms {
+        whole(*a);
     }
 }
 
-fn four_terms(terms: &[Term; 4])
-    ensures { length terms.now ≡ 4 }
+fn whole(a: Atom)
+    ensures { Whole a }
 {}

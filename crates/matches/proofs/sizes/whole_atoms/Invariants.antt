@@ -1,6 +1,7 @@
-use Rattle.std.proofs.Common.{◌≡◌, ℕ, ◌<◌, length, get_or}
+use Rattle.std.proofs.Common.{ℕ, ◌<◌, get_or}
+use Rattle.matches.specs.Lists.{Whole}
 use Rattle.matches.proofs.Steps.{no_atom}
 use Rattle.matches.proofs.sizes.whole_atoms.Given as goal
 
-abbrev pub invariant-loop-i : goal.invariant-loop-i
-invariant-loop-i l = (k : ℕ) → k < l.i → length (get_or l.atoms k no_atom).terms ≡ 4
+abbrev pub invariant-loop-a : goal.invariant-loop-a
+invariant-loop-a l = (k : ℕ) → k < l.a-index → Whole (get_or l.atoms k no_atom)

@@ -1,0 +1,15 @@
+use Rattle.std.proofs.Common.{ap, ◌∙◌}
+use Rattle.std.proofs.lemmas.Bool.Decides.{Decides-at}
+use Rattle.std.specs.Option.{is_some}
+use Rattle.rules.specs.Rules.{meaning}
+use Rattle.matches.specs.Lists.{look, formulas}
+use Rattle.matches.proofs.Bounded.{bounded}
+use Rattle.matches.proofs.Literal.{searched, decides_satisfied}
+use Rattle.matches.proofs.trigger.Trigger.is_satisfied.Goals as goal
+
+pub returns : goal.returns
+returns c =
+    let r = c.args.self.rule.now in
+    let h = look c.args.self.values.now in
+    let F = formulas c.args.self.facts.now in
+    Decides-at _ _ (c.is_some.ensures ∙ ap is_some (c.map_into.ensures ∙ searched r h F _ _ c.head.ensures.same c.bound.ensures)) (decides_satisfied (meaning r) (bounded r) h F)
