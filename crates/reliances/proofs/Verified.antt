@@ -1,6 +1,6 @@
 -- What the tests of a sheet say together, and that entries which are read hold constants and nulls where the tests pass.
 -- Assumes nothing.
-use Rattle.std.proofs.Common.{◌≡◌, ℕ, ◌≤◌, Bool, true, List, ◌++◌, map, Decides, sym, ap, ◌∙◌, subst, inl, inr, ⊎_elim}
+use Rattle.std.proofs.Common.{◌≡◌, ℕ, Bool, List, ◌++◌, map, take, Decides, sym, ap, ◌∙◌, subst, inl, inr, ⊎_elim}
 use Rattle.std.proofs.lemmas.Bool.Decides.{Decides-like}
 use Rattle.std.proofs.lemmas.List.{map-append}
 use Rattle.rules.specs.declared.Term.{Term}
@@ -8,18 +8,17 @@ use Rattle.rules.specs.declared.Term.TheVariants.{Constant, Variable, Null}
 use Rattle.rules.specs.declared.Atom.{Atom}
 use Rattle.rules.specs.declared.rule.Rule.{Rule}
 use Rattle.rules.specs.Logic.{In, Each, Formula, Implication, formula_of, terms_of}
-use Rattle.rules.specs.Bounds.{every, some, has?, head_of}
+use Rattle.rules.specs.Bounds.{some, has?, head_of}
 use Rattle.rules.specs.Matches.{Ground, IsNull, Facts, Stands, Assignment, value, under, Match, Unsatisfied, Applies, result}
 use Rattle.rules.specs.Reliances.{ShowsReliance, Alternative, ShowsRestraint}
 use Rattle.rules.specs.Rules.{meaning}
-use Rattle.rules.proofs.Membership.{in_left, stands_decided, decides_every}
+use Rattle.rules.proofs.Membership.{in_left, stands_decided}
 use Rattle.matches.specs.Lists.{look, formulas, under_atom, FactAtom, Sizes, HasAlternative}
-use Rattle.matches.specs.Matching.{fact_atom?}
-use Rattle.matches.proofs.Literal.{decides_fact_atom, facts_meant}
+use Rattle.matches.proofs.Literal.{facts_meant}
 use Rattle.matches.proofs.Basics.{in_map, from_terms, in_terms, either}
 use Rattle.matches.proofs.Bounded.{Within, Bounded, bounded}
 use Rattle.reliances.specs.declared.sheet.Sheet.{Sheet}
-use Rattle.reliances.specs.Sheets.{first_list, second_list, later_facts, Filled, Matched, Applied, ShowsPositive, ShowsRestrained}
+use Rattle.reliances.specs.Sheets.{Listed, first_list, second_list, later_facts, Filled, Matched, Applied, ShowsPositive, ShowsRestrained}
 use Rattle.reliances.proofs.Laying.{all_under}
 use Rattle.reliances.proofs.Slots.{facts_under, facts_both}
 
@@ -60,12 +59,12 @@ module _ (R : Implication) (h : Assignment) (F : List Formula) (facts : Facts F)
   alternative_filled K more k p a v (inl u) = subst Ground (sym (a.agrees v u)) (applied_filled p v (inl u))
   alternative_filled K more k p a v (inr e) = read_ground k K R.head more a.present v e.0
 
--- atoms that pass the test are facts
-pub each_fact : (xs : List Atom) → every fact_atom? xs ≡ true → Each FactAtom xs
-each_fact xs e = (decides_every fact_atom? FactAtom decides_fact_atom xs).0 e
+pub listed_facts : (N n : ℕ) (xs L : List Atom) → L ≡ take n xs → Listed N n xs → Facts (formulas L)
+listed_facts N n xs L e l = facts_meant L (subst (Each FactAtom) (sym e) l.facts)
 
-pub listed_facts : (xs : List Atom) → every fact_atom? xs ≡ true → Facts (formulas xs)
-listed_facts xs e = facts_meant xs (each_fact xs e)
+-- facts with others added
+pub joined : (xs more ys : List Atom) (H : List Formula) → formulas xs ≡ H → ys ≡ xs ++ more → formulas ys ≡ H ++ formulas more
+joined xs more ys H e p = ap formulas p ∙ map-append formula_of xs more ∙ ap (λ z. z ++ formulas more) e
 
 -- facts with a head added, as h says
 pub resulted : (R : Rule) (h : Assignment) (xs head ys : List Atom) → head ≡ head_of R.parts → ys ≡ xs ++ map (under_atom h) head
@@ -120,22 +119,21 @@ module _ (A B : Rule) (S : Sheet) (L : List Atom) (listed : L ≡ first_list S) 
   abbrev F : List Formula
   F = formulas (first_list S)
 
-  shows_positive : Sizes (meaning A) → S.first_len ≤ 11 → S.second_len ≡ 0 → Each FactAtom (first_list S) → ShowsReliance (meaning A) (meaning B) F f s
-      → ShowsPositive (meaning A) (meaning B) S
-  shows_positive sa few empty facts w = record {
-    few = few;
+  shows_positive : Sizes (meaning A) → Listed 11 S.first_len S.first → S.second_len ≡ 0 → ShowsReliance (meaning A) (meaning B) F f s → ShowsPositive (meaning A) (meaning B) S
+  shows_positive sa l empty w = record {
+    few = l.few;
     empty = empty;
-    facts = facts;
+    facts = l.facts;
     first = applied_filled (meaning A) f F w.facts w.first;
     second = matched_filled (meaning B) s (result (meaning A) f F) (result_facts (meaning A) f F w.facts (bounded A) sa w.first) w.second.matches;
     shows = w;
   }
 
-  pub positive_decided : Sizes (meaning A) → S.first_len ≤ 11 → S.second_len ≡ 0 → Each FactAtom L
+  pub positive_decided : Sizes (meaning A) → Listed 11 S.first_len S.first → S.second_len ≡ 0
       → (r : Bool) → Decides r (ShowsReliance (meaning A) (meaning B) (formulas L) f s) → Decides r (ShowsPositive (meaning A) (meaning B) S)
-  positive_decided sa few empty facts r d =
+  positive_decided sa l empty r d =
       Decides-like r
-      (λ w. shows_positive sa few empty (subst (Each FactAtom) listed facts) (subst (λ l. ShowsReliance (meaning A) (meaning B) (formulas l) f s) listed w))
+      (λ w. shows_positive sa l empty (subst (λ l. ShowsReliance (meaning A) (meaning B) (formulas l) f s) listed w))
       (λ w. subst (λ l. ShowsReliance (meaning A) (meaning B) (formulas l) f s) (sym listed) w.shows)
       d
 
@@ -149,13 +147,13 @@ module _ (A B : Rule) (S : Sheet) (L : List Atom) (listed : L ≡ first_list S) 
     abbrev ShowsAt : List Atom → List Atom → Type 0
     ShowsAt l m = ShowsRestraint (meaning A) (meaning B) (formulas l) (result (meaning B) s (formulas l) ++ formulas m) f s k
 
-    shows_restrained : Sizes (meaning A) → S.first_len ≤ 11 → S.second_len ≤ 9 → Each FactAtom (first_list S) → Each FactAtom (second_list S) → ShowsAt (first_list S) (second_list S)
+    shows_restrained : Sizes (meaning A) → Listed 11 S.first_len S.first → Listed 9 S.second_len S.second → ShowsAt (first_list S) (second_list S)
         → ShowsRestrained (meaning A) (meaning B) S
-    shows_restrained sa few fewer facts more w = record {
-      few = few;
-      fewer = fewer;
-      facts = facts;
-      more = more;
+    shows_restrained sa l m w = record {
+      few = l.few;
+      fewer = m.few;
+      facts = l.facts;
+      more = m.facts;
       first = applied_filled (meaning A) f D w.later w.first;
       second = applied_filled (meaning B) s F w.facts w.second;
       other =
@@ -164,11 +162,11 @@ module _ (A B : Rule) (S : Sheet) (L : List Atom) (listed : L ≡ first_list S) 
       shows = w;
     }
 
-    pub restrained_decided : Sizes (meaning A) → S.first_len ≤ 11 → S.second_len ≤ 9 → Each FactAtom L → Each FactAtom M → (r : Bool) → Decides r (ShowsAt L M)
+    pub restrained_decided : Sizes (meaning A) → Listed 11 S.first_len S.first → Listed 9 S.second_len S.second → (r : Bool) → Decides r (ShowsAt L M)
         → Decides r (ShowsRestrained (meaning A) (meaning B) S)
-    restrained_decided sa few fewer facts more r d =
+    restrained_decided sa l m r d =
         Decides-like r
-        (λ w. shows_restrained sa few fewer (subst (Each FactAtom) listed facts) (subst (Each FactAtom) added more)
+        (λ w. shows_restrained sa l m
         (subst (λ m. ShowsAt (first_list S) m) added (subst (λ l. ShowsAt l M) listed w)))
         (λ w. subst (λ l. ShowsAt l M) (sym listed) (subst (λ m. ShowsAt (first_list S) m) (sym added) w.shows))
         d

@@ -18,6 +18,11 @@ first_list s = take s.first_len s.first
 abbrev pub second_list : Sheet → List Atom
 second_list s = take s.second_len s.second
 
+-- of at most N atoms the first n are there, and each is a fact
+pub record Listed (N n : ℕ) (xs : List Atom) : Type 0 where
+  pub few : n ≤ N
+  pub facts : Each FactAtom (take n xs)
+
 -- the entries that are read hold constants and nulls
 abbrev pub Filled : (ℕ → Type 0) → Assignment → Type 0
 Filled Read h = (v : ℕ) → Read v → Ground (h v)

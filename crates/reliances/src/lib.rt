@@ -3,7 +3,6 @@
 
 ghost use Rattle.reliances.specs.Marked.{MarkedPairs};
 
-mod listed;
 mod lists;
 mod reliance_search;
 mod restraint_search;

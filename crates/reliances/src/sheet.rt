@@ -1,9 +1,7 @@
-ghost use Rattle.std.specs.Prelude.{◌≡◌, ◌≤◌, IfSome, IfNone};
-ghost use Rattle.rules.specs.Logic.{Each};
-ghost use Rattle.matches.specs.Lists.{FactAtom};
-ghost use Rattle.reliances.specs.Sheets.{first_list, second_list};
+ghost use Rattle.std.specs.Prelude.{◌≡◌, take, MatchOption};
+ghost use Rattle.reliances.specs.Sheets.{Listed, first_list, second_list};
 
-use crate::listed::Listed;
+use matches::are_facts;
 use rules::{Atom, Term};
 
 /// Which relation is asked about.
@@ -47,18 +45,24 @@ impl Sheet {
     };
 
     /// The facts before anything is applied, where the first list holds facts.
-    pub(crate) fn before(&self) -> Option<Listed<'_, 11>>
-        ensures some { IfSome result (λ l. (self.now.first_len ≤ 11) × (l.atoms.now ≡ first_list self.now)) }
-        ensures none { IfNone result ((self.now.first_len ≤ 11) × Each FactAtom (first_list self.now) → ⊥) }
+    pub(crate) fn before(&self) -> Option<&[Atom]>
+        ensures { let s = self.now in MatchOption result (¬ Listed 11 s.first_len s.first) (λ l. Listed 11 s.first_len s.first × (l.now ≡ first_list s)) }
     {
-        Listed::read(&self.first, self.first_len)
+        read_facts(&self.first, self.first_len)
     }
 
     /// What is there besides when the first rule is applied, where the second list holds facts.
-    pub(crate) fn besides(&self) -> Option<Listed<'_, 9>>
-        ensures some { IfSome result (λ l. (self.now.second_len ≤ 9) × (l.atoms.now ≡ second_list self.now)) }
-        ensures none { IfNone result ((self.now.second_len ≤ 9) × Each FactAtom (second_list self.now) → ⊥) }
+    pub(crate) fn besides(&self) -> Option<&[Atom]>
+        ensures { let s = self.now in MatchOption result (¬ Listed 9 s.second_len s.second) (λ l. Listed 9 s.second_len s.second × (l.now ≡ second_list s)) }
     {
-        Listed::read(&self.second, self.second_len)
+        read_facts(&self.second, self.second_len)
     }
+}
+
+/// The first `n` of the atoms, where there are so many and each is a fact.
+fn read_facts<const N: usize>(atoms: &[Atom; N], n: u8) -> Option<&[Atom]>
+    ensures { MatchOption result (¬ Listed N n atoms.now) (λ l. Listed N n atoms.now × (l.now ≡ take n atoms.now)) }
+{
+    let facts = atoms.get(..n as usize)?;
+    if are_facts(facts) { Some(facts) } else { None }
 }

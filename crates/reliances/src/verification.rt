@@ -1,18 +1,16 @@
 // Whether a sheet meets the definition of the relation that it is to show: a test for each condition, and nothing is
 // taken from how the sheet was made.
-ghost use Rattle.std.specs.Prelude.{◌≡◌, ◌+◌, ◌≤◌, true, ◌++◌, length, Decides};
+ghost use Rattle.std.specs.Prelude.{◌≡◌, ◌+◌, ◌≤◌, true, length, Decides};
 ghost use Rattle.arrayvec.specs.ArrayVec.{array_vec_len};
 ghost use Rattle.rules.specs.Matches.{Unsatisfied, Applies, result as result_of};
-ghost use Rattle.rules.specs.Reliances.{ShowsReliance, ShowsRestraint};
 ghost use Rattle.rules.specs.Rules.{meaning};
 ghost use Rattle.matches.specs.Lists.{look, formulas};
 ghost use Rattle.reliances.specs.Sheets.{ShowsPositive, ShowsRestrained, Shows, Holds};
 
-use crate::listed::Listed;
 use crate::lists::{Under, push_all, push_each};
 use crate::{Kind, Sheet};
 use arrayvec::ArrayVec;
-use matches::{has_alternative, is_alternative, is_fresh, is_match, is_satisfied, sized};
+use matches::{Trigger, sized};
 use rules::{Atom, Rule, Term};
 
 /// Whether the sheet meets the definition of the relation, for the two rules. If so, the relation holds.
@@ -28,121 +26,96 @@ pub fn verify(kind: Kind, first: &Rule, second: &Rule, sheet: &Sheet) -> bool
     }
 }
 
+// The second rule's match is unsatisfied once the first rule is applied, and was no match before.
 fn shows_positive(a: &Rule, b: &Rule, sheet: &Sheet) -> bool
     ensures { Decides result (ShowsPositive (meaning a.now) (meaning b.now) sheet.now) }
 {
-    let Some(before) = sheet.before() else {
+    let Some(facts) = sheet.before() else {
         return false;
     };
     if sheet.second_len != 0 {
         return false;
     }
     sized(a);
-    let first = Instance {
+    let first = Trigger {
         rule: a,
         values: &sheet.first_rule,
+        facts,
     };
-    let second = Instance {
+    let second = Trigger {
         rule: b,
         values: &sheet.second_rule,
+        facts,
     };
-    is_new_match(first, second, before)
+    is_applied(first)
+        && !second.is_match()
+        && is_unsatisfied(Trigger {
+            facts: &result::<15>(first),
+            ..second
+        })
 }
 
+// The second rule is applied, and what is there besides is added. Then the first rule is applied, which gives an
+// alternative where there was none.
 fn shows_restraint(a: &Rule, b: &Rule, sheet: &Sheet) -> bool
     ensures { Decides result (ShowsRestrained (meaning a.now) (meaning b.now) sheet.now) }
 {
-    let Some(before) = sheet.before() else {
+    let Some(facts) = sheet.before() else {
         return false;
     };
     let Some(besides) = sheet.besides() else {
         return false;
     };
     sized(a);
-    let first = Instance {
-        rule: a,
-        values: &sheet.first_rule,
-    };
-    let second = Instance {
+    sized(b);
+    let second = Trigger {
         rule: b,
         values: &sheet.second_rule,
+        facts,
     };
-    is_new_alternative(first, second, before, besides, &sheet.alternative)
-}
-
-/// A rule, and what its variables are given.
-#[derive(Clone, Copy)]
-struct Instance<'a> {
-    rule: &'a Rule,
-    values: &'a [Term],
-}
-
-impl Instance<'_> {
-    fn is_unsatisfied(self, facts: &[Atom]) -> bool
-        ensures { Decides result (Unsatisfied (meaning self.entry.rule.now) (look self.entry.values.now) (formulas facts.now)) }
-    {
-        is_match(self.rule, self.values, facts) && !is_satisfied(self.rule, self.values, facts)
-    }
-
-    fn is_applied(self, facts: &[Atom]) -> bool
-        ensures { Decides result (Applies (meaning self.entry.rule.now) (look self.entry.values.now) (formulas facts.now)) }
-    {
-        self.is_unsatisfied(facts) && is_fresh(self.rule, self.values, facts)
-    }
-
-    /// What the application results in.
-    fn result<const N: usize>(self, facts: &[Atom]) -> ArrayVec<Atom, N>
-        requires { length facts.now + 4 ≤ N }
-        ensures few { array_vec_len result ≤ length facts.now + 4 }
-        ensures is { formulas result.items ≡ result_of (meaning self.entry.rule.now) (look self.entry.values.now) (formulas facts.now) }
-    {
-        let mut all = ArrayVec::new();
-        push_all(facts, &mut all);
-        push_each(self.rule.head(), &Under(self.values), &mut all);
-        all
-    }
-}
-
-/// Whether `second` is an unsatisfied match once `first` is applied, and no match before.
-fn is_new_match(first: Instance, second: Instance, before: Listed<11>) -> bool
-    ensures { Decides result (ShowsReliance (meaning first.entry.rule.now) (meaning second.entry.rule.now) (formulas before.entry.atoms.now) (look first.entry.values.now) (look second.entry.values.now)) }
-{
-    first.is_applied(before.atoms)
-        && !is_match(second.rule, second.values, before.atoms)
-        && second.is_unsatisfied(&first.result::<15>(before.atoms))
-}
-
-/// The facts on which the first rule is applied.
-fn later_facts(second: Instance, before: Listed<11>, besides: Listed<9>) -> ArrayVec<Atom, 24>
-    ensures { formulas result.items ≡ result_of (meaning second.entry.rule.now) (look second.entry.values.now) (formulas before.entry.atoms.now) ++ formulas besides.entry.atoms.now }
-{
-    let mut all = second.result(before.atoms);
-    push_all(besides.atoms, &mut all);
-    all
-}
-
-/// Whether `other` is an alternative for the application of `second` once `first` is applied, and there was none before.
-fn is_new_alternative(
-    first: Instance,
-    second: Instance,
-    before: Listed<11>,
-    besides: Listed<9>,
-    other: &[Term],
-) -> bool
-    ensures { Decides result (ShowsRestraint (meaning first.entry.rule.now) (meaning second.entry.rule.now) (formulas before.entry.atoms.now) (result_of (meaning second.entry.rule.now) (look second.entry.values.now) (formulas before.entry.atoms.now) ++ formulas besides.entry.atoms.now) (look first.entry.values.now) (look second.entry.values.now) (look other.now)) }
-{
-    sized(second.rule);
-    if !second.is_applied(before.atoms) {
+    if !is_applied(second) {
         return false;
     }
-    let later = later_facts(second, before, besides);
-    let later = later.as_slice();
-    first.is_applied(later)
-        && !has_alternative(second.rule, second.values, later)
-        && is_alternative(
-            second.rule,
-            second.values,
-            &first.result::<28>(later),
-            other,
-        )
+    let mut later: ArrayVec<Atom, 24> = result(second);
+    push_all(besides, &mut later);
+    let first = Trigger {
+        rule: a,
+        values: &sheet.first_rule,
+        facts: later.as_slice(),
+    };
+    let second = Trigger {
+        facts: first.facts,
+        ..second
+    };
+    is_applied(first)
+        && !second.has_alternative()
+        && Trigger {
+            facts: &result::<28>(first),
+            ..second
+        }
+        .is_alternative(&sheet.alternative)
+}
+
+fn is_unsatisfied(trigger: Trigger) -> bool
+    ensures { let t = trigger.entry in Decides result (Unsatisfied (meaning t.rule.now) (look t.values.now) (formulas t.facts.now)) }
+{
+    trigger.is_match() && !trigger.is_satisfied()
+}
+
+fn is_applied(trigger: Trigger) -> bool
+    ensures { let t = trigger.entry in Decides result (Applies (meaning t.rule.now) (look t.values.now) (formulas t.facts.now)) }
+{
+    is_unsatisfied(trigger) && trigger.is_fresh()
+}
+
+/// What an application results in.
+fn result<const N: usize>(trigger: Trigger) -> ArrayVec<Atom, N>
+    requires { length trigger.facts.now + 4 ≤ N }
+    ensures few { array_vec_len result ≤ length trigger.entry.facts.now + 4 }
+    ensures is { let t = trigger.entry in formulas result.items ≡ result_of (meaning t.rule.now) (look t.values.now) (formulas t.facts.now) }
+{
+    let mut all = ArrayVec::new();
+    push_all(trigger.facts, &mut all);
+    push_each(trigger.rule.head(), &Under(trigger.values), &mut all);
+    all
 }

@@ -1,5 +1,5 @@
 use Rattle.std.proofs.lemmas.Bool.Decides.{Decides-like, Decides-not}
-use Rattle.reliances.proofs.verification.Instance.is_unsatisfied.Goals as goal
+use Rattle.reliances.proofs.verification.is_unsatisfied.Goals as goal
 
 pub returns-then-is_match : goal.returns-then-is_match
 returns-then-is_match c =
