@@ -3,7 +3,6 @@
 #![tactic(auto)]
 
 mod alternative;
-mod calls;
 mod facts;
 mod filling;
 mod fresh;
@@ -11,9 +10,6 @@ mod sizes;
 mod slots;
 mod trigger;
 
-pub use calls::{
-    find_alternative, has_alternative, is_alternative, is_fresh, is_match, is_satisfied,
-};
 pub use facts::{are_facts, stands_in};
 pub use filling::{atom_under, look_up};
 pub use sizes::sized;

@@ -4,7 +4,7 @@ ghost use Rattle.rules.specs.Matches.{Match, Satisfied};
 ghost use Rattle.rules.specs.Rules.{meaning};
 ghost use Rattle.rules.specs.Text.{universal?};
 ghost use Rattle.matches.specs.Lists.{look, formulas};
-ghost use Rattle.matches.specs.Matching.{same, bound_slot};
+ghost use Rattle.matches.specs.Matching.{same};
 
 use crate::facts::are_held;
 use crate::filling::look_up;
@@ -61,16 +61,5 @@ impl Trigger<'_> {
         ensures { result ≡ existential? (meaning self.entry.rule.now) v }
     {
         self.rule.is_existential(v)
-    }
-
-    /// The value of a universal variable.
-    pub(crate) fn slot(self, v: u16) -> Option<Term>
-        ensures { result ≡ bound_slot (universal? (meaning self.entry.rule.now) v) (look self.entry.values.now v) }
-    {
-        if self.is_universal(v) {
-            Some(self.value(v))
-        } else {
-            None
-        }
     }
 }

@@ -13,7 +13,7 @@ use crate::search::{Question, Relation, Way, counted};
 use crate::substitution::{first_slots, has_rigid, second_slots};
 use crate::{Kind, Sheet};
 use arrayvec::ArrayVec;
-use matches::{is_match, is_satisfied, sized};
+use matches::{Trigger, sized};
 use rules::{Atom, Term};
 
 /// The second rule positively relies on the first.
@@ -63,14 +63,26 @@ fn is_open(asked: &Question<Relies>, way: &Way) -> bool
     let second = second_slots(way.sigma);
     let mut all = candidate(asked, way);
     let facts = all.as_slice();
-    if has_rigid(facts, &asked.rigid)
-        || is_satisfied(asked.first, first, facts)
-        || is_match(asked.second, second, facts)
-    {
+    let applied = Trigger {
+        rule: asked.first,
+        values: first,
+        facts,
+    };
+    let relying = Trigger {
+        rule: asked.second,
+        values: second,
+        facts,
+    };
+    if has_rigid(facts, &asked.rigid) || applied.is_satisfied() || relying.is_match() {
         return false;
     }
     push_each(asked.first.head(), &Under(first), &mut all);
-    !is_satisfied(asked.second, second, &all)
+    let later = Trigger {
+        rule: asked.second,
+        values: second,
+        facts: &all,
+    };
+    !later.is_satisfied()
 }
 
 // The sheet of a way on which nothing remains.

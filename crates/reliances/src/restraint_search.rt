@@ -13,8 +13,8 @@ use crate::substitution::{first_slots, has_rigid, second_slots, wide_slots};
 use crate::unifier::{is_flexible, replace, slot_value};
 use crate::{Kind, Sheet};
 use arrayvec::ArrayVec;
-use matches::{atom_under, find_alternative, is_satisfied, sized, stands_in};
-use rules::{Atom, Rule, Term};
+use matches::{Trigger, atom_under, sized, stands_in};
+use rules::{Atom, Term};
 use std::array;
 
 /// The first rule restrains the second.
@@ -120,12 +120,21 @@ fn is_open(asked: &Question<Restrains>, way: &Way, list: &[Atom]) -> bool
     requires { list.now ≡ laid_later asked.now.first.now asked.now.second.now way.now.sigma.now way.now.old.now }
     ensures { Decides result (Open (meaning asked.now.first.now) (meaning asked.now.second.now) way.now.sigma.now (formulas way.now.old.now)) }
 {
-    let second = second_slots(way.sigma);
     let before = &list[..asked.second.body().len()];
+    let second = Trigger {
+        rule: asked.second,
+        values: second_slots(way.sigma),
+        facts: before,
+    };
+    let first = Trigger {
+        rule: asked.first,
+        values: first_slots(way.sigma),
+        facts: list,
+    };
     if has_rigid(before, &asked.rigid)
-        || is_satisfied(asked.second, second, before)
+        || second.is_satisfied()
         || has_rigid(list, &asked.rigid[..12])
-        || is_satisfied(asked.first, first_slots(way.sigma), list)
+        || first.is_satisfied()
     {
         return false;
     }
@@ -139,11 +148,11 @@ fn is_open(asked: &Question<Restrains>, way: &Way, list: &[Atom]) -> bool
 }
 
 // Some alternative on the facts, or none where there is none at all.
-fn find_early(b: &Rule, h: &[Term], list: &[Atom]) -> Option<Early>
-    ensures { EarlyFound (meaning b.now) (look h.now) (formulas list.now) result }
+fn find_early(trigger: Trigger) -> Option<Early>
+    ensures { let t = trigger.entry in EarlyFound (meaning t.rule.now) (look t.values.now) (formulas t.facts.now) result }
 {
     for spared in 0..12 {
-        if let Some(values) = find_alternative(b, h, list, spared) {
+        if let Some(values) = trigger.find_alternative(spared) {
             return Some(Early { spared, values });
         }
     }
@@ -213,7 +222,12 @@ fn settle(asked: &Question<Restrains>, way: &Way) -> Option<Sheet>
     if !is_open(asked, way, &list) {
         return None;
     }
-    let Some(early) = find_early(asked.second, second_slots(sigma), &list) else {
+    let second = Trigger {
+        rule: asked.second,
+        values: second_slots(sigma),
+        facts: &list,
+    };
+    let Some(early) = find_early(second) else {
         sized(asked.first);
         sized(asked.second);
         return Some(found_sheet(asked, way));

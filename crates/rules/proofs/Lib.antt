@@ -1,4 +1,3 @@
-pub mod Loops
 pub mod Mapped
 pub mod Membership
 pub mod Alike

@@ -58,10 +58,3 @@ impl PartialEq for Atom {
         self.predicate == other.predicate && self.args() == other.args()
     }
 }
-
-/// The first `arity` of the four terms, or all of them.
-pub fn first_terms(terms: &[Term; 4], arity: u8) -> &[Term]
-    ensures { result.now ≡ take arity terms.now }
-{
-    first(terms, arity)
-}

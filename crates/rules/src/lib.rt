@@ -7,7 +7,7 @@ mod parts;
 mod rule;
 mod show;
 
-pub use args::{first, first_terms};
+pub use args::first;
 pub use parts::RuleParts;
 pub use rule::Rule;
 

@@ -1,12 +1,12 @@
 -- One turn of each loop over a volume, and what the check then answers.
 use Rattle.std.proofs.Common.{◌≡◌, ℕ, suc, ◌+◌, ◌-◌, ◌*◌, ◌<◌, ◌≤◌, cond, ltb, List, Ok, Err, Result, sym, ap, ◌∙◌, arith}
 use Rattle.std.proofs.lemmas.Bool.{lt-ltb}
-use Rattle.rules.specs.Logic.{Formula, Implication}
+use Rattle.rules.specs.Logic.{Formula, Implication, Numbered}
 use Rattle.faults.specs.declared.EntryFault.{EntryFault}
 use Rattle.faults.specs.declared.VolumeFault.TheVariants.{NotRising}
 use Rattle.faults.specs.declared.Fault.{Fault}
 use Rattle.faults.specs.Faults.{fault, in_volume}
-use Rattle.volumes.specs.Layout.{number, extent, count, span, Numbered, RuleVolumeSays, FactVolumeSays}
+use Rattle.volumes.specs.Layout.{number, extent, count, span, RuleVolumeSays, FactVolumeSays}
 use Rattle.volumes.specs.Reading.{and_then, above, read_run, read_rule, read_rising, read_rule_entry, read_rule_entries, read_rules, read_fact_entry, read_fact_entries, read_facts}
 use Rattle.volumes.specs.Answers.{TheAnswer}
 use Rattle.volumes.proofs.RuleVolumes.{rules_right, rules_only}

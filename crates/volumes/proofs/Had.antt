@@ -2,7 +2,7 @@
 use Rattle.std.proofs.Common.{◌≡◌, ℕ, ◌+◌, ◌<◌, ◌≤◌, List, [], ◌++◌, length, get_or, Some, Ok, Err, Result, IsOk, MatchResult, sym, refl, ap, ◌∙◌, subst, arith, length-append}
 use Rattle.rules.specs.declared.Atom.{Atom}
 use Rattle.rules.specs.declared.rule.Rule.{Rule}
-use Rattle.rules.specs.Logic.{Formula, Implication, formula_of}
+use Rattle.rules.specs.Logic.{Formula, Implication, formula_of, Numbered}
 use Rattle.rules.specs.Rules.{meaning}
 use Rattle.volumes.specs.declared.kind.VolumeKind.TheVariants.{Rules, Facts}
 use Rattle.faults.specs.declared.Fault.{Fault}
@@ -13,7 +13,7 @@ use Rattle.volumes.specs.declared.rule_volume.NumberedRule.{NumberedRule}
 use Rattle.volumes.specs.declared.items.RuleAtoms.{RuleAtoms}
 use Rattle.volumes.specs.Sequence.{Stand}
 use Rattle.volumes.specs.Handing.{Left}
-use Rattle.volumes.specs.Layout.{span, AtomSays, RuleSays, RuleStands, Numbered, contents_end, count, number, rules_end, fact_place}
+use Rattle.volumes.specs.Layout.{span, AtomSays, RuleSays, RuleStands, contents_end, count, number, rules_end, fact_place}
 use Rattle.volumes.specs.Reading.{read_atom, read_rule, read_rules, read_facts}
 use Rattle.volumes.specs.Answers.{Nth, taken}
 use Rattle.volumes.specs.Parts.{Begun}

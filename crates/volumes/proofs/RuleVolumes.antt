@@ -1,13 +1,13 @@
 -- A rule volume that is read is the one that the bytes encode, and a fault is the first one there.
 use Rattle.std.proofs.Common.{◌≡◌, ℕ, zero, suc, ◌+◌, ◌-◌, ◌*◌, ◌<◌, ◌≤◌, cond, eqb, List, length, get_or, Ok, Err, Result, sym, refl, ap, ◌∙◌, subst, ⊎_elim, add-zero, add-suc, add-one, arith}
 use Rattle.std.proofs.lemmas.Bool.{cases_eq, eq-eqb, ne_eqb}
-use Rattle.rules.specs.Logic.{Implication}
+use Rattle.rules.specs.Logic.{Implication, Numbered}
 use Rattle.volumes.specs.declared.kind.VolumeKind.TheVariants.{Rules}
 use Rattle.faults.specs.declared.EntryFault.{EntryFault}
 use Rattle.faults.specs.declared.VolumeFault.TheVariants.{Ends, NotRising}
 use Rattle.faults.specs.declared.Fault.{Fault}
 use Rattle.faults.specs.Faults.{fault, in_volume}
-use Rattle.volumes.specs.Layout.{count, contents_end, ContentsWhole, Numbered, number, extent, Rising, rules_end, RuleSays, RuleEntry, RulesSay, RulesBegin, EncodesRules, RuleVolumeWrong, RuleVolumeSays}
+use Rattle.volumes.specs.Layout.{count, contents_end, ContentsWhole, number, extent, Rising, rules_end, RuleSays, RuleEntry, RulesSay, RulesBegin, EncodesRules, RuleVolumeWrong, RuleVolumeSays}
 use Rattle.volumes.specs.Reading.{and_then, above, read_rule, read_rising, read_rule_entry, read_rule_entries, read_rules}
 use Rattle.volumes.proofs.Steps.{said}
 use Rattle.volumes.proofs.Runs.{run_right, run_only, stand_kept, stand_nth}

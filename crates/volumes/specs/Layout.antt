@@ -5,7 +5,7 @@
 use Rattle.std.specs.Prelude.{◌≡◌, ℕ, zero, suc, ◌+◌, ◌*◌, ◌<◌, ◌≤◌, ◌⊎◌, List, ◌++◌, length, Ok, Err, Result, ◌≢◌, slice_index}
 use Rattle.rules.specs.declared.Term.{Term}
 use Rattle.rules.specs.declared.Term.TheVariants.{Constant, Variable, Null}
-use Rattle.rules.specs.Logic.{Formula, Implication}
+use Rattle.rules.specs.Logic.{Formula, Implication, Numbered}
 use Rattle.rules.specs.Bounds.{existentials}
 use Rattle.volumes.specs.declared.kind.VolumeKind.{VolumeKind}
 use Rattle.volumes.specs.declared.kind.VolumeKind.TheVariants.{Rules, Facts}
@@ -177,11 +177,6 @@ pub data ContentsWrong (k : VolumeKind) (bs : List ℕ) (f : Fault) : Type 0 whe
   no_contents : 3 ≤ length bs → at bs 0 ≡ first_byte_of k → count bs ≤ most k → length bs < contents_end k bs → f ≡ fault Short 0 (length bs) → ContentsWrong k bs f
 
 -- RULE VOLUMES: the contents have each rule's number and how many bytes it has.
-
--- a rule with its number
-pub record Numbered : Type 0 where
-  pub number : ℕ
-  pub rule : Implication
 
 -- the number and the length of the rule of index i
 abbrev pub number : List ℕ → ℕ → ℕ

@@ -4,7 +4,7 @@ use Rattle.std.specs.Prelude.{ℕ, zero, suc, ◌+◌, ◌-◌, ◌*◌, Bool, c
 use Rattle.std.specs.Result.{result_map_both}
 use Rattle.rules.specs.declared.Term.{Term}
 use Rattle.rules.specs.declared.Term.TheVariants.{Constant, Variable, Null}
-use Rattle.rules.specs.Logic.{Formula, Implication}
+use Rattle.rules.specs.Logic.{Formula, Implication, Numbered}
 use Rattle.rules.specs.Bounds.{existentials}
 use Rattle.volumes.specs.declared.kind.VolumeKind.{VolumeKind}
 use Rattle.volumes.specs.declared.kind.VolumeKind.TheVariants.{Rules, Facts}
@@ -20,7 +20,7 @@ use Rattle.faults.specs.declared.EntryFault.TheVariants.{EntryEnded, Count, Left
 use Rattle.faults.specs.declared.VolumeFault.TheVariants.{Short, FirstByte, TooMany, Ends, NotRising, Misplaced}
 use Rattle.faults.specs.declared.Fault.{Fault}
 use Rattle.faults.specs.Faults.{cut_at, atom_fault, entry_fault, fault, in_volume}
-use Rattle.volumes.specs.Layout.{at, pair, other_kind, span, first_byte_of, most, count, contents_end, number, extent, rules_end, fact_place, Numbered}
+use Rattle.volumes.specs.Layout.{at, pair, other_kind, span, first_byte_of, most, count, contents_end, number, extent, rules_end, fact_place}
 
 -- then the next reader, unless there was a fault
 abbrev pub and_then : {A B E : Type 0} → Result A E → (A → Result B E) → Result B E

@@ -1,9 +1,8 @@
 -- What volumes are printed as, in bytes.
 use Rattle.std.specs.Prelude.{ℕ, List, ◌++◌, map, codes, decimal}
 use Rattle.std.specs.List.{concat}
-use Rattle.rules.specs.Logic.{Formula}
+use Rattle.rules.specs.Logic.{Formula, Numbered}
 use Rattle.rules.specs.Text.{formula_text, rule_text}
-use Rattle.volumes.specs.Layout.{Numbered}
 
 -- a rule's number, a colon and the rule
 abbrev pub numbered_text : Numbered → List ℕ

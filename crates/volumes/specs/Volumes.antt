@@ -1,12 +1,12 @@
 -- What volumes that are taken up mean, and what is had from them.
 use Rattle.std.specs.Prelude.{◌≡◌, ℕ, ◌+◌, ◌<◌, ◌≤◌, List, length, Some, None, Option}
 use Rattle.rules.specs.declared.Atom.{Atom}
-use Rattle.rules.specs.Logic.{Formula, formula_of}
+use Rattle.rules.specs.Logic.{Formula, formula_of, Numbered}
 use Rattle.rules.specs.Rules.{meaning}
 use Rattle.volumes.specs.declared.rule_volume.NumberedRule.{NumberedRule}
 use Rattle.volumes.specs.declared.cursor.Cursor.{Cursor}
 use Rattle.volumes.specs.declared.items.RuleAtoms.{RuleAtoms}
-use Rattle.volumes.specs.Layout.{Numbered, rules_end}
+use Rattle.volumes.specs.Layout.{rules_end}
 use Rattle.volumes.specs.Answers.{Nth, Had, taken}
 use Rattle.volumes.specs.Handing.{HandsOut}
 use Rattle.volumes.specs.Reading.{read_rules, read_facts}

@@ -1,6 +1,7 @@
 //! Rule volumes.
 ghost use Rattle.std.specs.Prelude.{◌≡◌, ℕ, ◌+◌, ◌-◌, ◌*◌, ◌≤◌, List, length, Ok, Err, MatchResult, refl};
-ghost use Rattle.volumes.specs.Layout.{Numbered, count as count_of, number as number_of, extent as extent_of, rules_end, RuleVolumeSays};
+ghost use Rattle.rules.specs.Logic.{Numbered};
+ghost use Rattle.volumes.specs.Layout.{count as count_of, number as number_of, extent as extent_of, rules_end, RuleVolumeSays};
 ghost use Rattle.volumes.specs.Reading.{read_rising, read_rule_entries, read_rules};
 ghost use Rattle.volumes.specs.Answers.{Checked};
 ghost use Rattle.volumes.specs.Text.{numbered_text};

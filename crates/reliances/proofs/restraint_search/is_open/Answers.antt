@@ -20,7 +20,7 @@ returns-then-has_rigid c =
     let before = before_is A B σ old list body c.requires c.body.ensures.same in
     let later = later_is A B σ old list body c.requires c.body.ensures.same in
     let F = formulas (take (length body) list) in
-    let k = c.second_slots-second in
+    let k = c.second_slots in
     let o = O A B σ old q.rigid q.flags in
     decides_false (elim c.then-has_rigid.branch [
       | then-has_rigid-via-then-has_rigid w ↦
@@ -30,7 +30,7 @@ returns-then-has_rigid c =
       | then-has_rigid-via-else-has_rigid+else-is_satisfied+then-has_rigid-2 w ↦
           firsts_shut A B σ old q.rigid q.flags (part σ 0) (part σ 12) F (formulas list) o refl refl before later refl (w.if-has_rigid-2.ensures.0 refl)
       | then-has_rigid-via-else-has_rigid+else-is_satisfied+else-has_rigid-2+then-is_satisfied-2 w ↦
-          first_shut A B σ old q.rigid q.flags w.first_slots.result.now (part σ 12) F (formulas list) o w.first_slots.ensures refl before later refl (w.if-is_satisfied-2.ensures.0 refl)
+          first_shut A B σ old q.rigid q.flags c.first_slots.result.now (part σ 12) F (formulas list) o c.first_slots.ensures refl before later refl (w.if-is_satisfied-2.ensures.0 refl)
     ])
 
 pub returns : goal.returns
@@ -47,7 +47,7 @@ returns c =
     let head = c.head.result.now in
     let others = c.deref.result.now in
     let h = c.first_slots in
-    let k = c.second_slots-second in
+    let k = c.second_slots in
     open_decided A B σ old q.rigid q.flags h.result.now k.result.now (formulas (take (length body) list)) (formulas list) (formulas others) h.ensures k.ensures before later
     (other_is A B σ old q.rigid q.flags head others c.wide_slots.result.now c.head.ensures.same c.wide_slots.ensures
     (c.deref.ensures.0 ∙ laid_one _ c.push_each.new.into.items _ head c.new-other.ensures c.push_each.ensures))

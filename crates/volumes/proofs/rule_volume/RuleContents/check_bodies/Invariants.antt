@@ -1,5 +1,6 @@
 use Rattle.std.proofs.Common.{◌≡◌, ◌+◌, ◌*◌, List, length}
-use Rattle.volumes.specs.Layout.{Numbered, rules_end, extent}
+use Rattle.rules.specs.Logic.{Numbered}
+use Rattle.volumes.specs.Layout.{rules_end, extent}
 use Rattle.volumes.specs.Reading.{read_rule_entry}
 use Rattle.volumes.proofs.Loops.{Reads}
 use Rattle.volumes.proofs.rule_volume.RuleContents.check_bodies.Given as goal
