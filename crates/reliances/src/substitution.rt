@@ -51,6 +51,7 @@ pub(crate) fn wide_slots(sigma: &[Term; 36]) -> &[Term]
 fn keeps_null(kind: Kind, a: &Rule, b: &Rule, slot: u16) -> bool
     ensures { result ≡ rigid_for kind (meaning a.now) (meaning b.now) slot }
 {
+    // A match on the kind: as a step of the trait `Relation` it would be said in two places, and no plainer.
     match kind {
         _ if slot < 12 => a.is_existential(slot),
         Kind::Positive => false,

@@ -31,7 +31,8 @@ pub(crate) fn replace(sigma: &mut [Term], s: Term, t: Term)
     }
 }
 
-// What the slots give a term whose variables begin at slot `from`.
+// What the slots give a term whose variables begin at slot `from`. (All slots and a place, and no slice from there on, since
+// the definitions speak of all slots.)
 pub(crate) fn slot_value(t: Term, sigma: &[Term], from: usize) -> Term
     requires { from ≤ 24 }
     ensures { result ≡ value (through sigma.now from) t }

@@ -20,6 +20,7 @@ pub fn verify(kind: Kind, first: &Rule, second: &Rule, sheet: &Sheet) -> bool
     ensures shown { Decides result (Shows kind first.now second.now sheet.now) }
     ensures holds { result ≡ true → Holds kind first.now second.now }
 {
+    // A match, and no trait as in the search: it stands once, and the kind is the caller's value.
     match kind {
         Kind::Positive => shows_positive(first, second, sheet),
         Kind::Restraint => shows_restraint(first, second, sheet),

@@ -16,6 +16,7 @@ impl<'a> Cursor<'a> {
         ensures value { MatchResult result (λ ts. read_terms kind self.old.bytes.now self.old.end self.old.place arity ≡ Ok (take arity ts, self.old.place + 3 * arity)) (λ f. read_terms kind self.old.bytes.now self.old.end self.old.place arity ≡ Err f) }
         ensures moved { OnOk result (Past self.old (3 * arity) self.new) }
     {
+        // An atom keeps its terms in such an array.
         let mut terms = [Term::Constant(0); 4];
         for term in &mut terms[..arity as usize] {
             *term = self.term(kind)?;

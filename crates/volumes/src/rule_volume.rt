@@ -81,6 +81,7 @@ impl<'a> RuleContents<'a> {
         ensures { result ≡ rules_end self.now.bytes.now n }
     {
         let mut end = 3 + 4 * self.count;
+        // A loop, and no sum of a map: its proof did not close.
         for index in 0..n {
             end += extent(self.bytes, index);
         }

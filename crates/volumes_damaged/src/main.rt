@@ -91,6 +91,7 @@ fn add_changes(bytes: &mut [u8], place: usize, outcome: &mut Outcome) {
 fn damage(bytes: &mut [u8]) -> Outcome {
     let mut outcome = Outcome::NONE;
     add_beginnings(bytes, &mut outcome);
+    // By place, since the bytes are changed and changed back in between.
     for place in 0..bytes.len() {
         add_changes(bytes, place, &mut outcome);
     }
