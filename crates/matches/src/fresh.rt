@@ -4,7 +4,7 @@ ghost use Rattle.rules.specs.Bounds.{every};
 ghost use Rattle.rules.specs.Matches.{Fresh};
 ghost use Rattle.rules.specs.Rules.{meaning};
 ghost use Rattle.matches.specs.Lists.{look, formulas};
-ghost use Rattle.matches.specs.Matching.{existentials, is_null, apart?, fresh_at?};
+ghost use Rattle.matches.specs.Matching.{existential_variables, is_null, apart?, fresh_at?};
 
 use crate::Trigger;
 use crate::facts::is_in;
@@ -28,7 +28,7 @@ impl Trigger<'_> {
 
     /// Whether no other existential variable is given the same.
     fn is_own(self, v: u16) -> bool
-        ensures { result ≡ every (apart? (look self.entry.values.now) v) (existentials (meaning self.entry.rule.now)) }
+        ensures { result ≡ every (apart? (look self.entry.values.now) v) (existential_variables (meaning self.entry.rule.now)) }
     {
         (0..12)
             .filter(|w| self.is_existential(*w))
