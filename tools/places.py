@@ -68,7 +68,7 @@ show('functions that answer a bool and write what they found into a &mut', [f'{n
 show('a flag that travels with what it says of another parameter', [f'{name(f)}: {n}' for f, n, h, b in fns if re.search(r'\ball: bool', head(h))])
 show('variants that say that there is nothing', lines(r'^\s*(End|Nothing|Missing|Empty),'))
 show('matches that make an Option or a Result by hand', [f'{name(f)}: {n}' for f, n, h, b in fns for _ in re.findall(r'(?:Ok|Some)\(\w+\) => (?:Ok|Some)\(|None => None|(?:Ok|Some)\(\w+\) => \w+,\s*(?:Err\(_\)|None) => 0|Some\(_\) => true,\s*None => false|Ok\(_\) => Ok', b)])
-show('bytes that stand for a kind', lines(r'\btag (==|>|<)|-> u8 *$|=> [0-9],$'))
+show('functions that give or take a number for a kind or a refusal', [f'{name(f)}: {n}' for f, n, h, b in fns if re.search(r'-> u8', head(h)) and 'match' in b or re.search(r'\btag ==', b)])
 
 print('2. Twins')
 
@@ -87,18 +87,27 @@ for f, n, h, b in fns:
     if len(b.split()) > 12:
         groups[shape(b)].append(f'{name(f)}: {n}')
 alike = [g for g in groups.values() if len(g) > 1]
-show('functions whose body is that of another but for names and numbers', [x for g in alike for x in g])
+twins = [x for g in alike for x in g]
+show('functions whose body is that of another but for names and numbers', twins)
 if verbose:
     for g in alike:
         print('        =', '; '.join(g))
 
-show('functions that only go through a slice and test each element, which differ in the test', [f'{name(f)}: {n}' for f, n, h, b in fns if re.fullmatch(r'\{\s*(if \w+\.len\(\) != \w+\.len\(\) \{\s*return false;\s*\}\s*)?for \w+ in 0\.\.\w+\.len\(\) \{.{0,160}?return (true|false);\s*\}\s*\}\s*(true|false)\s*\}', b, re.S)])
-show('pairs of functions named for the two volumes or the two parts of a rule', [f'{name(f)}: {n}' for f, n, h, b in fns if re.search(r'(^|_)(rules|facts|body|head|first|second)$', n) and 'cases' not in name(f)])
+tests = [f'{name(f)}: {n}' for f, n, h, b in fns if re.fullmatch(r'\{\s*(if \w+\.len\(\) != \w+\.len\(\) \{\s*return false;\s*\}\s*)?for \w+ in 0\.\.\w+\.len\(\) \{.{0,160}?return (true|false);\s*\}\s*\}\s*(true|false)\s*\}', b, re.S)]
+show('functions that only go through a slice and test each element, which differ in the test', tests)
+PAIRS = [('rules', 'facts'), ('body', 'head'), ('first', 'second')]
+names = {(f.parts[-3], n) for f, n, h, b in fns}
+named = [f'{name(f)}: {n}' for f, n, h, b in fns for p in PAIRS for x, y in (p, p[::-1])
+         if re.search(rf'(^|_){x}(_|$)', n) and (f.parts[-3], re.sub(rf'(^|_){x}(_|$)', rf'\g<1>{y}\g<2>', n)) in names and 'cases' not in name(f)]
+show('functions named for one of the two volumes or of the two parts of a rule', named)
+show('functions in one of these lists', sorted(set(twins + tests + named)))
 
 print('3. Loops over an index')
 show('for over a range up to a length', lines(r'for \w+ in [0-9a-z_]+\.\.[a-z_.]*len\(\)'))
-show('for over any other range', [l for l in lines(r'for \w+ in .*\.\.') if 'len()' not in l])
-show('while and loop', lines(r'^\s*(while|loop)\b'))
+ranges = [l for l in lines(r'for \w+ in [^&]*\.\.') if 'len()' not in l]
+show('for over any other range, but for the tables of cases', [l for l in ranges if 'volumes_cases' not in l])
+show('for over a range in the tables of cases, where it gives a length or a number', [l for l in ranges if 'volumes_cases' in l])
+show('loop, and while that tests', lines(r'^\s*(while (?!let)|loop)\b'))
 
 print('4. By hand')
 show('functions that only compare two values', [f'{name(f)}: {n}' for f, n, h, b in fns if re.fullmatch(r'\{\s*\w+ == \w+\s*\}', b)])
