@@ -32,7 +32,7 @@ pub struct NumberedRule {
 
 /// The number of the rule of this index.
 fn number(bytes: &[u8], index: usize) -> u16
-    requires { 3 + 4 * index + 2 ≤ length bytes.now }
+    requires { 3 + 4 * index + 4 ≤ length bytes.now }
     ensures { result ≡ number_of bytes.now index }
 {
     pair_at(bytes, 3 + 4 * index)
@@ -40,7 +40,7 @@ fn number(bytes: &[u8], index: usize) -> u16
 
 /// How many bytes the rule of this index has.
 fn extent(bytes: &[u8], index: usize) -> usize
-    requires { 5 + 4 * index + 2 ≤ length bytes.now }
+    requires { 3 + 4 * index + 4 ≤ length bytes.now }
     ensures value { result ≡ extent_of bytes.now index }
     ensures few { result ≤ 65535 }
 {
