@@ -103,7 +103,7 @@ show('functions named for one of the two volumes or of the two parts of a rule',
 show('functions in one of these lists', sorted(set(twins + tests + named)))
 
 print('3. Loops over an index')
-show('for over a range up to a length', lines(r'for \w+ in [0-9a-z_]+\.\.[a-z_.]*len\(\)'))
+show('for over a range up to a length', lines(r'for \w+ in [0-9a-z_]+\.\.=?[a-z_.]*len\(\)'))
 ranges = [l for l in lines(r'for \w+ in [^&]*\.\.') if 'len()' not in l]
 show('for over any other range, but for the tables of cases', [l for l in ranges if 'volumes_cases' not in l])
 show('for over a range in the tables of cases, where it gives a length or a number', [l for l in ranges if 'volumes_cases' in l])
@@ -145,5 +145,5 @@ show('arrays that are filled up to a count', lines(r'\[(Atom::BLANK|None|false|T
 show('parameters that are a place or a count in a slice beside them', [f'{name(f)}: {n}' for f, n, h, b in fns if re.search(r'\b(at|n|end|start|p|place|count|from): (usize|u8)', head(h)) and re.search(r'\[', head(h))])
 
 print('7. Switches')
-show('matches on a kind', lines(r'match (self\.)?kind\b'))
+show('functions that match on a kind of volume or of relation', [f'{name(f)}: {n}' for f, n, h, b in fns if re.search(r'match [^{]*\{[^}]*\w*Kind::\w+(, \w+\))? =>|match kind \{', b)])
 show('tables of functions', lines(r'\bfn\('))

@@ -4,6 +4,7 @@
 ghost use Rattle.std.specs.Prelude.{◌≡◌};
 ghost use Rattle.faults.specs.declared.TermFault.TheVariants.{Ended};
 ghost use Rattle.faults.specs.declared.AtomFault.TheVariants.{CutShort};
+ghost use Rattle.faults.specs.declared.EntryFault.TheVariants.{EntryEnded};
 ghost use Rattle.faults.specs.Faults.{atom_fault, entry_fault, in_volume, entry_place, atom_place, term_place, rank_of, number_of};
 
 mod show;
@@ -96,6 +97,14 @@ impl From<Cut> for AtomFault {
     }
 }
 
+impl From<Cut> for EntryFault {
+    ghost from_gives = { λ c r. r ≡ EntryEnded c };
+
+    fn from(cut: Cut) -> EntryFault {
+        EntryFault::EntryEnded(cut)
+    }
+}
+
 /// A cut is one of the rule or fact, in whatever layer it is found: it goes up as it is.
 impl From<TermFault> for AtomFault {
     ghost from_gives = { λ t r. r ≡ atom_fault t };
@@ -138,8 +147,7 @@ impl TermFault {
     {
         match self {
             TermFault::Ended(c) => c.place,
-            TermFault::Kind { place } => place,
-            TermFault::Number { place } => place,
+            TermFault::Kind { place } | TermFault::Number { place } => place,
         }
     }
 }
@@ -164,9 +172,9 @@ impl EntryFault {
     {
         match self {
             EntryFault::EntryEnded(c) => c.place,
-            EntryFault::Count { place } => place,
-            EntryFault::Left { place } => place,
-            EntryFault::Existentials { place } => place,
+            EntryFault::Count { place }
+            | EntryFault::Left { place }
+            | EntryFault::Existentials { place } => place,
             EntryFault::InAtom(a) => a.place(),
         }
     }
@@ -182,8 +190,7 @@ impl Fault {
             VolumeFault::Short => 1,
             VolumeFault::FirstByte => 2,
             VolumeFault::TooMany => 3,
-            VolumeFault::NotRising => 4,
-            VolumeFault::Misplaced => 4,
+            VolumeFault::NotRising | VolumeFault::Misplaced => 4,
             VolumeFault::Ends => 5,
             VolumeFault::InEntry(EntryFault::Count { .. }) => 6,
             VolumeFault::InEntry(EntryFault::EntryEnded(_)) => 7,
@@ -202,8 +209,7 @@ impl Fault {
         ensures { result ≡ rank_of self.layer }
     {
         match self.layer {
-            VolumeFault::NotRising => 2,
-            VolumeFault::Misplaced => 2,
+            VolumeFault::NotRising | VolumeFault::Misplaced => 2,
             VolumeFault::InEntry(EntryFault::InAtom(AtomFault::Arity { .. })) => 4,
             VolumeFault::InEntry(EntryFault::InAtom(AtomFault::InTerm(TermFault::Kind { .. }))) =>
                 5,

@@ -44,7 +44,7 @@ impl Trigger<'_> {
         ensures { Decides result (HasAlternative (meaning self.entry.rule.now) (look self.entry.values.now) (formulas self.entry.facts.now)) }
     {
         (0..12)
-            .filter(|v| self.is_existential(*v))
+            .filter(|v| self.rule.is_existential(*v))
             .any(|v| self.find_without(v).is_some())
     }
 
@@ -60,7 +60,7 @@ impl Trigger<'_> {
         ensures { result ≡ agrees? (meaning self.entry.rule.now) (look self.entry.values.now) (look k.now) }
     {
         (0..12)
-            .filter(|v| self.is_universal(*v))
+            .filter(|v| self.rule.is_universal(*v))
             .all(|v| self.gives(v, look_up(k, v as usize)))
     }
 
@@ -69,7 +69,7 @@ impl Trigger<'_> {
         ensures { result ≡ spares? (meaning self.entry.rule.now) (look self.entry.values.now) (look k.now) }
     {
         (0..12)
-            .filter(|v| self.is_existential(*v))
+            .filter(|v| self.rule.is_existential(*v))
             .any(|v| !stands_under(self.value(v), self.rule.head(), k))
     }
 }

@@ -16,7 +16,7 @@ pub fn stands_in(t: Term, list: &[Atom]) -> bool
     is_in(t, list)
 }
 
-// The same, as the model has it.
+// The same, as the model has it: the public contract does not speak of the model.
 pub(crate) fn is_in(t: Term, list: &[Atom]) -> bool
     ensures { result ≡ stands_in t (formulas list.now) }
 {

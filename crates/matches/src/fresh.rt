@@ -16,7 +16,7 @@ impl Trigger<'_> {
         ensures { Decides result (Fresh (meaning self.entry.rule.now) (look self.entry.values.now) (formulas self.entry.facts.now)) }
     {
         (0..12)
-            .filter(|v| self.is_existential(*v))
+            .filter(|v| self.rule.is_existential(*v))
             .all(|v| self.is_fresh_at(v))
     }
 
@@ -31,7 +31,7 @@ impl Trigger<'_> {
         ensures { result ≡ every (apart? (look self.entry.values.now) v) (existential_variables (meaning self.entry.rule.now)) }
     {
         (0..12)
-            .filter(|w| self.is_existential(*w))
+            .filter(|w| self.rule.is_existential(*w))
             .all(|w| self.is_apart(v, w))
     }
 

@@ -1,8 +1,6 @@
 ghost use Rattle.std.specs.Prelude.{◌≡◌, Decides};
-ghost use Rattle.rules.specs.Bounds.{existential?};
 ghost use Rattle.rules.specs.Matches.{Match, Satisfied};
 ghost use Rattle.rules.specs.Rules.{meaning};
-ghost use Rattle.rules.specs.Text.{universal?};
 ghost use Rattle.matches.specs.Lists.{look, formulas};
 ghost use Rattle.matches.specs.Matching.{same};
 
@@ -48,18 +46,5 @@ impl Trigger<'_> {
         ensures { result ≡ same (look self.entry.values.now v) t }
     {
         self.value(v) == t
-    }
-
-    // These two are the rule's own, as the model has them.
-    pub(crate) fn is_universal(self, v: u16) -> bool
-        ensures { result ≡ universal? (meaning self.entry.rule.now) v }
-    {
-        self.rule.is_universal(v)
-    }
-
-    pub(crate) fn is_existential(self, v: u16) -> bool
-        ensures { result ≡ existential? (meaning self.entry.rule.now) v }
-    {
-        self.rule.is_existential(v)
     }
 }

@@ -11,7 +11,7 @@ use arrayvec::ArrayVec;
 use matches::atom_under;
 use rules::{Atom, Term};
 
-/// A way to read atoms, and what it makes of each.
+/// A way to read atoms, and what it makes of each. (A trait, and no closure: so a clause can name what is made.)
 pub(crate) trait Reading {
     ghost gives: { Self → Atom → Atom };
 
@@ -51,7 +51,7 @@ pub(crate) fn push_all<const N: usize>(atoms: &[Atom], into: &mut ArrayVec<Atom,
     ensures { into.new.items ≡ into.old.items ++ atoms.now }
 {
     // There is room, so it cannot fail.
-    let _ = into.try_extend_from_slice(atoms);
+    into.try_extend_from_slice(atoms).unwrap();
 }
 
 // Whether one of the atoms has the predicate.

@@ -43,8 +43,7 @@ impl Relation for Relies {
 }
 
 // The facts of a node: the first rule's body, and the atoms left old.
-// That these are few is asked here and of the two callers: both steps test it first, and a type that kept it would be made
-// there only to be taken apart.
+// Both steps test that few are left old; a type that kept it would be made there only to be taken apart.
 fn candidate(asked: &Question<Relies>, way: &Way) -> ArrayVec<Atom, 15>
     requires { length way.now.old.now ≤ 5 }
     ensures few { length result.items ≤ 11 }

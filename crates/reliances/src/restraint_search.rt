@@ -95,7 +95,7 @@ impl Reading for Other<'_> {
 }
 
 // The facts of a node: what the second rule is applied on and gives, and what is there besides.
-// That the atoms left old are few is asked here and of two callers, for the reason that stands in the search for a reliance.
+// Both steps test that few are left old; a type that kept it would be made there only to be taken apart.
 fn later(asked: &Question<Restrains>, way: &Way) -> ArrayVec<Atom, 19>
     requires { length way.now.old.now ≤ 3 }
     ensures { result.items ≡ laid_later asked.now.first.now asked.now.second.now way.now.sigma.now way.now.old.now }
@@ -152,7 +152,7 @@ fn is_open(asked: &Question<Restrains>, way: &Way, list: &[Atom]) -> bool
 fn find_early(trigger: Trigger) -> Option<Early>
     ensures { let t = trigger.entry in EarlyFound (meaning t.rule.now) (look t.values.now) (formulas t.facts.now) result }
 {
-    // A loop, and no find_map: its proof did not close, and std says nothing of what find_map finds.
+    // A loop, and no find_map: its proof did not close, since std has no lemma on what that finds.
     for spared in 0..12 {
         if let Some(values) = trigger.find_alternative(spared) {
             return Some(Early { spared, values });

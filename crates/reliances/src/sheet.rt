@@ -19,7 +19,7 @@ pub enum Kind {
 /// when the first rule is applied; for a positive reliance it is empty. Plain: nothing is checked.
 #[derive(Clone, Copy)]
 pub struct Sheet {
-    // Arrays with their counts beside: nothing is allocated, and a reader sees what stands in them.
+    // Arrays with their counts beside: nothing is allocated, and a sheet is `Copy`, which a list of fixed memory is not.
     pub first: [Atom; 11],
     pub first_len: u8,
     pub second: [Atom; 9],

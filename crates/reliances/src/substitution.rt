@@ -26,6 +26,7 @@ fn twelve(sigma: &[Term; 36], from: usize) -> &[Term; 12]
     sigma[from..].first_chunk().unwrap()
 }
 
+// Two names for two parts of the slots; what reads them is `twelve`.
 /// The slots of the first rule's variables.
 pub(crate) fn first_slots(sigma: &[Term; 36]) -> &[Term; 12]
     ensures { result.now ≡ part sigma.now 0 }

@@ -43,6 +43,7 @@ pub(crate) fn slot_value(t: Term, sigma: &[Term], from: usize) -> Term
     }
 }
 
+// The slots are written in place: one copy of the 36 is made for each pair of atoms, in `unify`.
 fn unify_term(sigma: &mut [Term], rigid: &[bool], s: Term, t: Term) -> Option<()>
     ensures { option_map (λ _. sigma.new) result ≡ unify (flags rigid.now) sigma.old s t }
 {

@@ -27,6 +27,6 @@ pub enum Term {
 pub struct Atom {
     pub predicate: u16,
     pub arity: u8,
-    // An array with its count beside: an atom takes no memory but its own, and a reader sees what stands in it.
+    // An array with its count beside: nothing is allocated, and an atom is `Copy`, which a list of fixed memory is not.
     pub terms: [Term; 4],
 }

@@ -1,7 +1,8 @@
 ghost use Rattle.std.specs.Prelude.{◌≡◌, Decides};
 ghost use Rattle.rules.specs.Logic.{Universal, Existential};
-ghost use Rattle.rules.specs.Bounds.{body_of, head_of, MakesRule};
+ghost use Rattle.rules.specs.Bounds.{body_of, head_of, MakesRule, existential?};
 ghost use Rattle.rules.specs.Rules.{MadeOf, meaning};
+ghost use Rattle.rules.specs.Text.{universal?};
 
 use crate::{Atom, Rule, RuleParts};
 
@@ -26,6 +27,7 @@ impl Rule {
         parts
     }
 
+    // Two names for two fields, as in the parts.
     pub fn body(&self) -> &[Atom]
         ensures same { result.now ≡ body_of self.now.parts }
         ensures kept { MakesRule self.now.parts }
@@ -42,14 +44,16 @@ impl Rule {
 
     /// Whether the variable stands in the body.
     pub fn is_universal(&self, v: u16) -> bool
-        ensures { Decides result (Universal (meaning self.now) v) }
+        ensures value { result ≡ universal? (meaning self.now) v }
+        ensures decides { Decides result (Universal (meaning self.now) v) }
     {
         self.parts.is_in_body(v)
     }
 
     /// Whether the variable stands in the head, and not in the body.
     pub fn is_existential(&self, v: u16) -> bool
-        ensures { Decides result (Existential (meaning self.now) v) }
+        ensures value { result ≡ existential? (meaning self.now) v }
+        ensures decides { Decides result (Existential (meaning self.now) v) }
     {
         self.parts.is_only_in_head(v)
     }

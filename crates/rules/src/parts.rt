@@ -7,7 +7,7 @@ use crate::{Atom, Term, first};
 /// The parts of a rule before anything is checked: the first `bodies` and the first `heads` atoms count.
 #[derive(Clone, Copy)]
 pub struct RuleParts {
-    // Arrays with their counts beside: nothing is allocated, and a reader can fill them before anything is checked.
+    // Arrays with their counts beside: nothing is allocated, and the parts are `Copy`, as an `Atom` is.
     pub body: [Atom; 6],
     pub bodies: u8,
     pub head: [Atom; 4],
@@ -23,6 +23,7 @@ impl RuleParts {
         heads: 0,
     };
 
+    // Two names for two fields; what reads them is `first`.
     /// The body atoms that count.
     pub(crate) fn body(&self) -> &[Atom]
         ensures { result.now ≡ body_of self.now }

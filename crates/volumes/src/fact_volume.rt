@@ -63,7 +63,7 @@ fn facts_end(bytes: &[u8], count: usize) -> Result<usize, Fault>
         place: 3 + 2 * count,
         end: bytes.len(),
     };
-    // By index, since the fact's place in the contents follows from it, and a fault names it.
+    // By index: chunks of the contents would give an entry's bytes, but its place and its fault need the index.
     for index in 0..count {
         cursor.fact(index)?;
     }
@@ -100,6 +100,7 @@ impl Entries for Facts {
     }
 }
 
+// A public name, as `check_rules` is, for what is written once for each kind.
 /// How many facts the bytes hold as a fact volume, or their first fault.
 pub fn check_facts(bytes: &[u8]) -> Result<usize, Fault>
     ensures { Checked (FactVolumeSays bytes.now) result }

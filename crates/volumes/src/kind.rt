@@ -17,6 +17,7 @@ pub(crate) enum TermKind {
     Null,
 }
 
+// A table for each number, and no constants of a trait: so both kinds stand side by side.
 impl VolumeKind {
     pub(crate) fn first_byte(self) -> u8
         ensures { result ≡ first_byte_of self }

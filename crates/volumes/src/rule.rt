@@ -9,7 +9,7 @@ use crate::items::{Item, RuleAtoms};
 use faults::{AtomFault, EntryFault};
 use rules::{Atom, Rule, RuleParts};
 
-/// Puts an atom behind the first `n`, and counts it.
+/// Puts an atom behind the first `n`, and counts it: the parts are plain arrays with counts.
 fn put(atoms: &mut [Atom], n: &mut u8, atom: Atom)
     requires { (n.old < length atoms.old) × (n.old < 255) }
     ensures atoms { take n.new atoms.new ≡ take n.old atoms.old ++ atom ∷ [] }
@@ -39,8 +39,8 @@ impl<'a> Cursor<'a> {
         ensures { MatchResult result (λ a. Begun self.entry a) (λ f. read_rule self.entry.bytes.now self.entry.end self.entry.place ≡ Err f) }
     {
         let start = self.place;
-        let bodies = self.byte().map_err(EntryFault::EntryEnded)?;
-        let heads = self.byte().map_err(EntryFault::EntryEnded)?;
+        let bodies = self.byte()?;
+        let heads = self.byte()?;
         if !(1..=6).contains(&bodies) {
             return Err(EntryFault::Count { place: start });
         }

@@ -57,7 +57,7 @@ struct RuleContents<'a> {
     ghost whole: { 3 + 4 * count ≤ length bytes.now },
 }
 
-// The loops count indices, since an entry's place in the contents follows from its index, and a fault names it.
+// The loops count indices: chunks of the contents would give an entry's bytes, but its place and its fault need the index.
 impl<'a> RuleContents<'a> {
     /// Whether each number is above the one before it.
     fn check_rising(&self) -> Result<(), Fault>
@@ -140,6 +140,7 @@ impl Entries for Rules {
     }
 }
 
+// A public name, as `check_facts` is, for what is written once for each kind.
 /// How many rules the bytes hold as a rule volume, or their first fault.
 pub fn check_rules(bytes: &[u8]) -> Result<usize, Fault>
     ensures { Checked (RuleVolumeSays bytes.now) result }

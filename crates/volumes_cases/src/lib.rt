@@ -1,4 +1,5 @@
-//! Tables of volumes with what the check answers for them and what is taken up of them.
+//! Tables of volumes with what the check answers for them and what is taken up of them. A loop over a range in here gives
+//! lengths or numbers to such a table, and indexes nothing.
 #![tactic(auto)]
 
 #[cfg(test)]

@@ -4,10 +4,10 @@
 mod agreement;
 mod tally;
 
-use agreement::{facts_agree, rules_agree};
+use agreement::{atoms_agree, entries_agree};
 use std::{fs, io};
 use tally::Tally;
-use volumes::{check_facts, check_rules};
+use volumes::{Facts, Rules, check_facts, check_rules};
 
 const SAMPLES: [&str; 19] = [
     "observatory.vol",
@@ -35,21 +35,18 @@ const SAMPLES: [&str; 19] = [
 const VALUES: [u8; 7] = [0, 1, 2, 3, 5, 12, 255];
 
 /// What came of the damaged forms of a volume, as rule volumes and as fact volumes.
-#[derive(Clone, Copy)]
+#[derive(Clone, Copy, Default)]
 struct Outcome {
     rules: Tally,
     facts: Tally,
 }
 
 impl Outcome {
-    const NONE: Outcome = Outcome {
-        rules: Tally::NONE,
-        facts: Tally::NONE,
-    };
-
     fn add(&mut self, bytes: &[u8]) {
-        self.rules.add(check_rules(bytes), rules_agree(bytes));
-        self.facts.add(check_facts(bytes), facts_agree(bytes));
+        let agreed = entries_agree::<Rules>(bytes) && atoms_agree(bytes);
+        self.rules.add(check_rules(bytes), agreed);
+        self.facts
+            .add(check_facts(bytes), entries_agree::<Facts>(bytes));
     }
 
     fn disagreements(&self) -> u64 {
@@ -61,6 +58,7 @@ impl Outcome {
 
 /// Adds each beginning of the volume, the whole among them.
 fn add_beginnings(bytes: &[u8], outcome: &mut Outcome) {
+    // By length, since each is another part.
     for n in 0..=bytes.len() {
         outcome.add(&bytes[..n]);
     }
@@ -89,7 +87,7 @@ fn add_changes(bytes: &mut [u8], place: usize, outcome: &mut Outcome) {
 }
 
 fn damage(bytes: &mut [u8]) -> Outcome {
-    let mut outcome = Outcome::NONE;
+    let mut outcome = Outcome::default();
     add_beginnings(bytes, &mut outcome);
     // By place, since the bytes are changed and changed back in between.
     for place in 0..bytes.len() {

@@ -4,7 +4,7 @@ use std::fmt;
 
 /// How many volumes were accepted and declined, how often each refusal came, and how often the check and what was
 /// taken up disagreed.
-#[derive(Clone, Copy)]
+#[derive(Clone, Copy, Default)]
 pub struct Tally {
     accepted: u64,
     declined: u64,
@@ -13,13 +13,6 @@ pub struct Tally {
 }
 
 impl Tally {
-    pub const NONE: Tally = Tally {
-        accepted: 0,
-        declined: 0,
-        refusals: [0; 10],
-        disagreements: 0,
-    };
-
     pub fn add(&mut self, answer: Result<usize, Fault>, agreed: bool) {
         match answer {
             Ok(_) => self.accepted = self.accepted.wrapping_add(1),

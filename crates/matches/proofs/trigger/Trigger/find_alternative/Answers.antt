@@ -17,4 +17,4 @@ pub returns : goal.returns
 returns c =
     let r = c.args.self.rule.now in
     spared_found (meaning r) (bounded r) (look c.args.self.values.now) (formulas c.args.self.facts.now) c.args.spared c.in_ok-found.found (sym c.in_ok-found.ensures)
-    (c.is_existential.ensures.0 c.if-not-is_existential.false) (look c.fill.result) c.fill.ensures
+    (c.is_existential.ensures.decides.0 c.if-not-is_existential.false) (look c.fill.result) c.fill.ensures
