@@ -118,7 +118,6 @@ show('matches that give true or false', [f'{name(f)}: {n}' for f, n, h, b in fns
 
 print('5. What travels together')
 params = collections.Counter()
-where = collections.defaultdict(list)
 for f, n, h, b in fns:
     if 'cases' in name(f) or 'damaged' in name(f):
         continue
@@ -127,7 +126,6 @@ for f, n, h, b in fns:
     for k in (3, 4, 5):
         for i in range(len(ps) - k + 1):
             params[ps[i:i + k]] += 1
-            where[ps[i:i + k]].append(f'{name(f)}: {n}')
 found = [(p, c) for p, c in params.items() if c > 2]
 # Of runs that stand in one another, the longest is counted.
 top = [(p, c) for p, c in found if not any(p != q and set(p) <= set(q) and c <= d for q, d in found)]

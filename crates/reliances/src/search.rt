@@ -54,7 +54,8 @@ impl<'a, R: Relation> Question<'a, R> {
 }
 
 /// A way into a search: what the slots hold, the atoms that were left old, and those that remain.
-// It does not hold the question, which stays while the ways change. That it leads to a node is a `requires`: a ghost field holds no fact that has several proofs, as which atom is which has.
+// It does not hold the question, which stays while the ways change. That it leads to a node is a `requires`: a ghost field
+// holds no fact that has several proofs, as which atom is which has.
 #[derive(Clone, Copy)]
 pub(crate) struct Way<'a> {
     pub sigma: &'a [Term; 36],

@@ -53,6 +53,7 @@ impl<'a> Cursor<'a> {
     }
 }
 
+// No twin of `rules_end`, which the contents tell.
 /// Where the last fact ends, if each stands as the contents say.
 fn facts_end(bytes: &[u8], count: usize) -> Result<usize, Fault>
     requires { (ContentsWhole VolumeKind.Facts bytes.now) × (count ≡ count_of bytes.now) }

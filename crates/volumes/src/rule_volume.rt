@@ -75,6 +75,7 @@ impl<'a> RuleContents<'a> {
         Ok(())
     }
 
+    // No twin of `facts_end`: where rules end is told by the contents, where facts end by the facts.
     /// Where the first `n` rules end.
     fn rules_end(&self, n: usize) -> usize
         requires { n ≤ self.now.count }

@@ -19,6 +19,7 @@ impl<'a> Cursor<'a> {
             return Err(TermFault::Kind { place });
         };
         let number = self.pair()?;
+        // A match on the kind: each kind is made into another term.
         match term {
             TermKind::Constant => Ok(Term::Constant(number)),
             TermKind::Variable if number > 11 => Err(TermFault::Number { place: place + 1 }),

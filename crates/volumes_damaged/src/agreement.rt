@@ -38,6 +38,7 @@ fn is_same(placed: Placed<'_>, atom: &Atom) -> bool {
     placed.atom == *atom && placed.bytes.len() == 3 + 3 * atom.arity as usize
 }
 
+// It answers a bool, and only steps the reader that it is lent.
 fn is_at_end(atoms: &mut RuleAtoms<'_>) -> bool {
     matches!(atoms.next_item(), Ok(None))
 }
