@@ -15,6 +15,16 @@ def name(f):
     return f'{f.parts[-3]}/{f.name}'
 
 
+def after(t, i):
+    """The place after the brace that closes the one at i."""
+    d = 0
+    while True:
+        d += {'{': 1, '}': -1}.get(t[i], 0)
+        i += 1
+        if d == 0:
+            return i
+
+
 def functions():
     """Each function: file, name, what stands between its name and its body, and its body."""
     for f, t in text.items():
@@ -22,22 +32,10 @@ def functions():
             i = t.find('{', m.end())
             # The first brace that opens neither a clause nor a type is the body's.
             while i >= 0 and re.search(r'(requires|ensures)\s*\w*\s*$', t[m.end():i]):
-                d, j = 0, i
-                while True:
-                    d += {'{': 1, '}': -1}.get(t[j], 0)
-                    j += 1
-                    if d == 0:
-                        break
-                i = t.find('{', j)
+                i = t.find('{', after(t, i))
             if i < 0 or ';' in re.sub(r'\[[^]]*\]|\{[^}]*\}', '', t[m.end():i]):
                 continue
-            d, j = 0, i
-            while True:
-                d += {'{': 1, '}': -1}.get(t[j], 0)
-                j += 1
-                if d == 0:
-                    break
-            yield f, m.group(1), t[m.end():i], t[i:j]
+            yield f, m.group(1), t[m.end():i], t[i:after(t, i)]
 
 
 fns = list(functions())
