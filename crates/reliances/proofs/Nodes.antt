@@ -1,6 +1,6 @@
 -- From node to node of either search as the code goes: the first of the atoms that remain is left old, or is new.
 -- Assumes nothing.
-use Rattle.std.proofs.Common.{◌≡◌, ℕ, zero, suc, ◌+◌, ◌<◌, Bool, true, false, ◌≢◌, List, [], ◌∷◌, ◌++◌, map, length, get_or, take, sym, refl, ◌∙◌, subst, inl, inr, ⊎_elim, arith, Some}
+use Rattle.std.proofs.Common.{◌≡◌, ℕ, zero, suc, ◌+◌, ◌<◌, ◌≤◌, Bool, true, false, ◌≢◌, List, [], ◌∷◌, ◌++◌, map, length, get_or, take, sym, refl, ◌∙◌, subst, inl, inr, ⊎_elim, arith, Some}
 use Rattle.std.proofs.lemmas.List.{map-append, length-append, take_more, get_or_past}
 use Rattle.std.proofs.lemmas.Bool.{cases_eq, cases_lt, false≢true}
 use Rattle.rules.specs.declared.Term.TheVariants.{Null}
@@ -29,9 +29,12 @@ small_body r x i = ((makes r).body x i).few
 pub small_head : (r : Rule) → Each Small (head_of r.parts)
 small_head r x i = ((makes r).head x i).few
 
--- atoms under an assignment stay small
+-- atoms stay small where their arities are kept
+pub kept_small : (f : Atom → Atom) → ((a : Atom) → (f a).arity ≡ a.arity) → (xs : List Atom) → Each Small xs → Each Small (map f xs)
+kept_small f same xs g x i = let r = from_map f x xs i in subst Small (sym r.2) (subst (λ n. n ≤ 4) (sym (same r.0)) (g r.0 r.1))
+
 pub under_small : (h : Assignment) (xs : List Atom) → Each Small xs → Each Small (map (under_atom h) xs)
-under_small h xs f x i = let r = from_map (under_atom h) x xs i in subst Small (sym r.2) (f r.0 r.1)
+under_small h = kept_small (under_atom h) (λ a. refl)
 
 pub left_start : (bs : List Formula) → Left bs [] bs
 left_start bs = record { few = omega arith; all = λ e b i. inl i }

@@ -1,6 +1,6 @@
 -- From node to node of either search, by its kind, and what is known after all heads were tried.
 -- Assumes nothing.
-use Rattle.std.proofs.Common.{◌≡◌, ℕ, ◌<◌, Bool, true, ◌⊎◌, ◌↔◌, List, [], ◌∷◌, ◌++◌, length, get_or, Option, Some, None, IsSome, sym, refl, ap, ◌∙◌, subst, inl, ⊎_elim}
+use Rattle.std.proofs.Common.{◌≡◌, ℕ, ◌<◌, Bool, true, ◌⊎◌, List, [], ◌∷◌, ◌++◌, length, get_or, Option, Some, None, sym, refl, ap, ◌∙◌, subst, inl, ⊎_elim}
 use Rattle.std.proofs.lemmas.List.{map-append}
 use Rattle.std.proofs.lemmas.Bool.{false≢true}
 use Rattle.std.proofs.lemmas.Option.{none-some}
@@ -18,7 +18,7 @@ use Rattle.reliances.specs.declared.sheet.Kind.TheVariants.{Positive, Restraint}
 use Rattle.reliances.specs.declared.sheet.Sheet.{Sheet}
 use Rattle.reliances.specs.Unification.{Subst, start, unify_formulas, flags, FlagsAre}
 use Rattle.reliances.specs.Following.{Small, Node}
-use Rattle.reliances.specs.Sheets.{first_list, later_facts, Shows, Holds}
+use Rattle.reliances.specs.Sheets.{first_list, later_facts, Shows, Holds, Found}
 use Rattle.reliances.specs.Searching.{gone, rigid_for, Follows, Deserted, Searched}
 use Rattle.reliances.proofs.Unify.{Slotted, some_same}
 use Rattle.reliances.proofs.Nodes.{no_atom, node_start, node_old, node_new, get_d_in}
@@ -120,6 +120,6 @@ module _ (kind : Kind) (A B : Rule) (rigid : List Bool) (is : Flagged kind A B r
       subst (λ z. Node (meaning A).head (gone kind (meaning B)) rigid z [] atoms) (sym e)
       (node_start (meaning A).head (gone kind (meaning B)) (slots_heads kind A B rigid is) (slots_gone kind A B rigid is) rigid (start_keeps kind A B rigid is) atoms p small)
 
-  pub answered : (r : Option Sheet) (σ : Subst) → σ ≡ start → Searched r kind A B rigid σ [] → IsSome r ↔ Holds kind A B
-  answered (Some s) σ e shows = (λ q. shows_holds kind A B s shows, λ q. refl)
-  answered None σ e left = (λ q. absurd (false≢true q), λ w. absurd (left (subst (λ z. Follows kind (meaning A) (meaning B) (flags rigid) z []) (sym e) (follow_start kind A B rigid is w))))
+  pub answered : (r : Option Sheet) (σ : Subst) → σ ≡ start → Searched r kind A B rigid σ [] → Found r kind A B
+  answered (Some s) σ e shows = shows
+  answered None σ e left = λ w. left (subst (λ z. Follows kind (meaning A) (meaning B) (flags rigid) z []) (sym e) (follow_start kind A B rigid is w))

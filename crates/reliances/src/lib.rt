@@ -3,6 +3,7 @@
 
 ghost use Rattle.reliances.specs.Marked.{MarkedPairs};
 
+mod asking;
 mod lists;
 mod reliance_search;
 mod restraint_search;
@@ -12,6 +13,7 @@ mod substitution;
 mod unifier;
 mod verification;
 
+pub use asking::ask;
 pub use sheet::{Kind, Sheet};
 pub use verification::verify;
 

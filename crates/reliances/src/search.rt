@@ -32,6 +32,7 @@ pub(crate) trait Relation {
 }
 
 /// Whether the relation holds between two rules, with the slots that keep their nulls while that is searched.
+#[derive(Drop)]
 pub(crate) struct Question<'a, R: Relation> {
     pub first: &'a Rule,
     pub second: &'a Rule,
