@@ -14,7 +14,7 @@ kept_head e x y rest true q k i = i
 kept_head e x y rest false q k (inl p) = absurd (false≢true (sym q ∙ ap e (sym p) ∙ k))
 kept_head e x y rest false q k (inr j) = j
 
-in_kept : {A : Type 0} (e : A → Bool) (x : A) (xs : List A) → In x xs → e x ≡ true → In x (filter e xs)
+pub in_kept : {A : Type 0} (e : A → Bool) (x : A) (xs : List A) → In x xs → e x ≡ true → In x (filter e xs)
 in_kept e x [] i k = i
 in_kept e x (y ∷ ys) (inl p) k = kept_head e x y (filter e ys) (e y) refl k (inl p)
 in_kept e x (y ∷ ys) (inr j) k = kept_head e x y (filter e ys) (e y) refl k (inr (in_kept e x ys j k))
@@ -24,9 +24,13 @@ head_kept e x y rest true q (inl p) = inl (p, q)
 head_kept e x y rest true q (inr j) = inr j
 head_kept e x y rest false q i = inr i
 
-kept_passes : {A : Type 0} (e : A → Bool) (x : A) (xs : List A) → In x (filter e xs) → e x ≡ true
+pub kept_passes : {A : Type 0} (e : A → Bool) (x : A) (xs : List A) → In x (filter e xs) → e x ≡ true
 kept_passes e x [] i = absurd i
 kept_passes e x (y ∷ ys) i = ⊎_elim (λ p. ap e p.0 ∙ p.1) (kept_passes e x ys) (head_kept e x y (filter e ys) (e y) refl i)
+
+pub kept_of : {A : Type 0} (e : A → Bool) (x : A) (xs : List A) → In x (filter e xs) → In x xs
+kept_of e x [] i = i
+kept_of e x (y ∷ ys) i = ⊎_elim (λ p. inl p.0) (λ j. inr (kept_of e x ys j)) (head_kept e x y (filter e ys) (e y) refl i)
 
 in_range : (n a v : ℕ) → a ≤ v → v < a + n → In v (range_with_len a n)
 in_range zero a v l m = absurd (omega arith)

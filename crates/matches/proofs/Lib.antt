@@ -1,4 +1,3 @@
-pub mod Binding
 pub mod Basics
 pub mod Bounded
 pub mod Below

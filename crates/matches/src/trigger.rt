@@ -1,8 +1,9 @@
 ghost use Rattle.std.specs.Prelude.{◌≡◌, Decides};
+ghost use Rattle.rules.specs.Bounds.{universal?};
 ghost use Rattle.rules.specs.Matches.{Match, Satisfied};
 ghost use Rattle.rules.specs.Rules.{meaning};
 ghost use Rattle.matches.specs.Lists.{look, formulas};
-ghost use Rattle.matches.specs.Matching.{same};
+ghost use Rattle.matches.specs.Matching.{same, bound_slot};
 
 use crate::facts::are_held;
 use crate::filling::look_up;
@@ -33,6 +34,17 @@ impl Trigger<'_> {
         Slots::bound(self)
             .map_into(self.facts, None, self.rule.head())
             .is_some()
+    }
+
+    /// What a universal variable is given, and nothing for another one.
+    pub(crate) fn bound_value(self, v: u16) -> Option<Term>
+        ensures { result ≡ bound_slot (universal? (meaning self.entry.rule.now) v) (look self.entry.values.now v) }
+    {
+        if self.rule.is_universal(v) {
+            Some(self.value(v))
+        } else {
+            None
+        }
     }
 
     pub(crate) fn value(self, v: u16) -> Term

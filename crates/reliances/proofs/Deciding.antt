@@ -286,7 +286,7 @@ end? A B σ old = settle A B (loose_count (rigid_both A B) σ) old σ
 
 -- whether A restrains B
 abbrev pub restrains? : Implication → Implication → Bool
-restrains? A B = ways? (rigid_both A B) A.head (end? A B) (map (shift_formula B) B.head) start []
+restrains? A B = ways? (rigid_both A B) A.head (end? A B) (shifted B) start []
 
 module _ (A B : Implication) (ba : Bounded A) (bb : Bounded B) (sa : Sizes A) (sb : Sizes B) where
   shown : (old : List Formula) (σ : Subst) → ready? A B σ old ≡ true → too_early A B σ old ≡ None → Restraint A B
@@ -386,16 +386,16 @@ module _ (A B : Implication) (ba : Bounded A) (bb : Bounded B) (sa : Sizes A) (s
     where
       sound : restrains? A B ≡ true → Restraint A B
       sound e =
-          let r = ways_sound (rigid_both A B) A.head (end? A B) (map (shift_formula B) B.head) start [] e in
+          let r = ways_sound (rigid_both A B) A.head (end? A B) (shifted B) start [] e in
           settle_sound (loose_count (rigid_both A B) r.0) r.1 r.0 r.2
 
       complete : Restraint A B → restrains? A B ≡ true
       complete w =
-          ways_complete rigid A.head (end? A B) (map (shift_formula B) B.head) Followed ReachedHere
+          ways_complete rigid A.head (end? A B) (shifted B) Followed ReachedHere
           (λ σ old rest r. r.rest_from)
           (restraint.follow_split A B ba bb rigid is_rigid)
           (restraint.reach_old A B ba bb rigid is_rigid)
           (restraint.reach_new A B ba bb rigid is_rigid)
           (λ σ old r v. settle_complete (loose_count rigid σ) old σ (omega arith) r v)
-          (map (shift_formula B) B.head) start []
+          (shifted B) start []
           (restraint.reach_start A B ba bb rigid is_rigid) (restraint.follow_start A B ba bb rigid is_rigid w)

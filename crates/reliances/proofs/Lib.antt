@@ -14,5 +14,5 @@ pub mod RelianceEnd
 pub mod RestraintNodes
 pub mod RestraintEnd
 pub mod SearchSteps
-pub mod Mapping
+pub mod Gone
 pub mod Laying

@@ -7,13 +7,13 @@ use Rattle.rules.specs.declared.Term.TheVariants.{Null}
 use Rattle.rules.specs.declared.Atom.{Atom}
 use Rattle.rules.specs.declared.rule.Rule.{Rule}
 use Rattle.rules.specs.Logic.{In, Each, Formula, formula_of}
-use Rattle.rules.specs.Bounds.{body_of, head_of, MakesRule}
+use Rattle.rules.specs.Bounds.{body_of, head_of, MakesRule, flags}
 use Rattle.rules.specs.Matches.{Assignment}
 use Rattle.rules.proofs.Membership.{in_left, in_right}
 use Rattle.rules.proofs.Bounded.{makes_rule_decided}
 use Rattle.matches.specs.Lists.{look, formulas, under_atom}
 use Rattle.matches.proofs.Basics.{from_map}
-use Rattle.reliances.specs.Unification.{Subst, flags, start, unify_formulas}
+use Rattle.reliances.specs.Unification.{Subst, start, unify_formulas}
 use Rattle.reliances.specs.Following.{Reached, Left, Small, Node}
 use Rattle.reliances.proofs.Unify.{Slotted}
 use Rattle.reliances.proofs.Slots.{each_more}

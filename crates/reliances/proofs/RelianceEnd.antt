@@ -1,11 +1,11 @@
 -- What the end of a way of the search for a positive reliance shows, and where no witness can follow.
 -- Assumes nothing.
-use Rattle.std.proofs.Common.{◌≡◌, ◌+◌, ◌≤◌, Bool, List, [], map, length, take, sym, ap, ◌∙◌, subst, ⊎_elim, arith}
+use Rattle.std.proofs.Common.{◌≡◌, ℕ, ◌+◌, ◌≤◌, Bool, List, [], map, length, take, sym, ap, ◌∙◌, subst, ⊎_elim, arith}
 use Rattle.std.proofs.lemmas.List.{length-map}
 use Rattle.rules.specs.declared.Atom.{Atom}
 use Rattle.rules.specs.declared.rule.Rule.{Rule}
 use Rattle.rules.specs.Logic.{In, Each, Formula, formula_of}
-use Rattle.rules.specs.Bounds.{body_of}
+use Rattle.rules.specs.Bounds.{body_of, flags, FlagsAre}
 use Rattle.rules.specs.Matches.{Ground}
 use Rattle.rules.specs.Reliances.{ShowsReliance}
 use Rattle.rules.specs.Rules.{meaning}
@@ -14,7 +14,7 @@ use Rattle.matches.specs.Lists.{look, formulas, under_atom, Sizes}
 use Rattle.matches.proofs.Basics.{in_map}
 use Rattle.matches.proofs.Bounded.{bounded}
 use Rattle.reliances.specs.declared.sheet.Sheet.{Sheet}
-use Rattle.reliances.specs.Unification.{Subst, flags, rigid?, FlagsAre, part, candidate}
+use Rattle.reliances.specs.Unification.{Subst, rigid?, part, candidate}
 use Rattle.reliances.specs.Following.{Small, Node}
 use Rattle.reliances.specs.Sheets.{ShowsPositive}
 use Rattle.reliances.specs.PositiveSearch.{Followed, Open, IsFound}
@@ -31,15 +31,14 @@ module _ (A B : Rule) (rigid : List Bool) (is : FlagsAre rigid (rigid? (meaning 
   NodeHere = Node (meaning A).head (meaning B).body rigid
 
   -- where every atom is old, no witness follows
-  pub none_new : (old body : List Atom) → NodeHere σ old [] → body ≡ body_of B.parts → length body ≤ length old → FollowedHere σ (formulas old) → ⊥
-  none_new old body n e l w =
+  pub none_new : (old : List Atom) (count : ℕ) → NodeHere σ old [] → count ≡ length (meaning B).body → count ≤ length old → FollowedHere σ (formulas old) → ⊥
+  none_new old count n e l w =
       w.shows.new (λ b i. w.actual b (⊎_elim (λ j. absurd j) (λ j. j) (n.left.all full b i)))
     where
       full : length (formulas old) + 0 ≡ length (meaning B).body
       full =
           let few = n.left.few in
           let p : length (formulas old) ≡ length old = length-map old formula_of in
-          let q : length (meaning B).body ≡ length body = length-map (body_of B.parts) formula_of ∙ ap length (sym e) in
           omega arith
 
   -- a node that is shut for good

@@ -8,11 +8,11 @@ use Rattle.rules.specs.declared.Term.TheVariants.{Null}
 use Rattle.rules.specs.declared.Atom.{Atom}
 use Rattle.rules.specs.declared.rule.Rule.{Rule}
 use Rattle.rules.specs.Logic.{Formula, formula_of}
-use Rattle.rules.specs.Bounds.{body_of, head_of}
+use Rattle.rules.specs.Bounds.{body_of, head_of, flags}
 use Rattle.rules.specs.Matches.{Stands, under, Match, Satisfied, result}
 use Rattle.rules.specs.Rules.{meaning}
 use Rattle.matches.specs.Lists.{look, formulas, under_atom}
-use Rattle.reliances.specs.Unification.{Subst, flags, part, candidate, HasRigid}
+use Rattle.reliances.specs.Unification.{Subst, part, candidate, HasRigid}
 use Rattle.reliances.specs.PositiveSearch.{Open}
 use Rattle.reliances.proofs.Laying.{all_under, along}
 

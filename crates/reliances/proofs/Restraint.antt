@@ -1,10 +1,10 @@
 -- The search for restraint: a witness that follows it to a node follows it to one of the children, also where the null of a
 -- slot is made one that the application gave; and what is open at the end, with no alternative too early, shows the restraint.
 -- Assumes nothing.
-use Rattle.std.proofs.Common.{◌≡◌, ℕ, zero, suc, ◌+◌, ◌-◌, ◌<◌, ◌≤◌, Bool, true, false, cond, ◌&&◌, ltb, ◌⊎◌, List, [], ◌∷◌, ◌++◌, map, length, Decides, sym, refl, ap, ◌∙◌, subst, inl, inr, ⊎_elim, zero-add, arith, Some}
+use Rattle.std.proofs.Common.{◌≡◌, ℕ, zero, suc, ◌+◌, ◌-◌, ◌<◌, ◌≤◌, Bool, true, false, cond, ◌&&◌, ◌||◌, ltb, ◌⊎◌, List, [], ◌∷◌, ◌++◌, map, length, Decides, sym, refl, ap, ◌∙◌, subst, inl, inr, ⊎_elim, zero-add, arith, Some}
 use Rattle.std.proofs.lemmas.List.{length-map}
 use Rattle.std.proofs.lemmas.Bool.Decides.{Decides-and}
-use Rattle.std.proofs.lemmas.Bool.{cond-true, cond-false, lt-ltb, le-ltb, cases_Bool, cases_lt, not_from_false, not_from_true}
+use Rattle.std.proofs.lemmas.Bool.{cond-true, cond-false, lt-ltb, le-ltb, cases_Bool, cases_lt, both_ways, false≢true, not_from_false, not_from_true}
 use Rattle.rules.specs.declared.Term.{Term}
 use Rattle.rules.specs.declared.Term.TheVariants.{Constant, Variable, Null}
 use Rattle.rules.specs.Logic.{In, Each, Formula, Implication, terms_of, Universal, Existential}
@@ -15,10 +15,12 @@ use Rattle.rules.proofs.Membership.{in_left, in_right, in_either}
 use Rattle.matches.specs.Lists.{look, Sized, Sizes}
 use Rattle.matches.specs.Matching.{same, stands_in}
 use Rattle.matches.proofs.Basics.{in_map, from_map, in_terms, from_terms, cons_path, formula_path, under_same, either, decides_same, decides_some, decides_stands_in}
+use Rattle.matches.proofs.Below.{in_kept, kept_of}
 use Rattle.matches.proofs.Bounded.{Within, Bounded, by_formula}
-use Rattle.reliances.specs.Unification.{Subst, through, replaced, flexible, unify_formulas, rigid?, rigid_both, start, part, wide, shift_var, shift_term, shift_formula, other, moved, loose_count, before_of, extra_of, later_of, shares?}
+use Rattle.std.specs.List.{filter}
+use Rattle.reliances.specs.Unification.{Subst, existential_term?, through, replaced, flexible, unify_formulas, rigid?, rigid_both, start, part, wide, shift_var, shift_term, shift_formula, other, moved, loose_count, before_of, extra_of, later_of, shares?}
 use Rattle.reliances.specs.Following.{hat, slot, three, Reached}
-use Rattle.reliances.specs.RestraintSearch.{shifted, Followed, Open}
+use Rattle.reliances.specs.RestraintSearch.{opens?, shifted, Followed, Open}
 use Rattle.reliances.proofs.Unify.{Slotted, slotted, Solid, elim_true, elim_false, is_flexible, replaced_is, replaced_not, good_replaced, joins_replaced, unify_formulas_works}
 use Rattle.reliances.proofs.Pull.{lift, Into, lift_under, lift_to, stands_lifts, satisfied_lifts, into_map, into_both, into_more}
 use Rattle.reliances.proofs.Slots.{decides_rigid, look_start, look_part, look_wide, part_ground, facts_under, facts_both, each_more, unshared}
@@ -46,6 +48,34 @@ three_third f h k v =
 false_from : {P : Type 0} (b : Bool) → Decides b P → (P → ⊥) → b ≡ false
 false_from true d n = absurd (n (d.0 refl))
 false_from false d n = refl
+
+or_false : (b c : Bool) → (b || c) ≡ false → (b ≡ false) × (c ≡ false)
+or_false true c e = absurd (false≢true (sym e))
+or_false false c e = (refl, e)
+
+none_passes : {X : Type 0} (p : X → Bool) (xs : List X) → some p xs ≡ false → (x : X) → In x xs → p x ≡ false
+none_passes p [] e x i = absurd i
+none_passes p (y ∷ ys) e x (inl q) = ap p q ∙ (or_false (p y) (some p ys) e).0
+none_passes p (y ∷ ys) e x (inr i) = none_passes p ys (or_false (p y) (some p ys) e).1 x i
+
+-- an atom of B's head in which no existential variable stands is the same by all assignments that agree on universal variables
+closed_same : (B : Implication) (h k : Assignment) → ((v : ℕ) → Universal B v → k v ≡ h v) → (b : Formula) → In b B.head → opens? B b ≡ false → under k b ≡ under h b
+closed_same B h k agrees b i closed =
+    under_same k h b (λ v j.
+    ⊎_elim (agrees v)
+    (λ n. absurd (both_ways (rigid? B v) (none_passes (existential_term? B) b.terms closed (Variable v) j) ((decides_rigid B v).1 (in_terms (Variable v) b B.head i j, n))))
+    (either (stands_in (Variable v) B.body) (decides_stands_in (Variable v) B.body)))
+
+-- an atom of B's head is gone through, or in it no existential variable stands
+gone_or_closed : (B : Implication) (b : Formula) → In b B.head → In (shift_formula B b) (shifted B) ⊎ (opens? B b ≡ false)
+gone_or_closed B b i =
+    ⊎_elim (λ e. inl (in_map (shift_formula B) b (filter (opens? B) B.head) (in_kept (opens? B) b B.head i e))) (λ e. inr e) (cases_Bool (opens? B b))
+
+-- what is gone through is an atom of B's head, as the alternative reads it
+from_shifted : (B : Implication) (s : Formula) → In s (shifted B) → (b : Formula) × In b B.head × (s ≡ shift_formula B b)
+from_shifted B s i =
+    let r = from_map (shift_formula B) s (filter (opens? B) B.head) i in
+    (r.0, kept_of (opens? B) r.0 B.head r.1, r.2)
 
 shift_existential : (B : Implication) (v : ℕ) → Existential B v → shift_var B v ≡ 12 + v
 shift_existential B v x = elim_true (rigid? B v) (12 + v) v ((decides_rigid B v).1 x)
@@ -105,6 +135,12 @@ stands_either : (t : Term) (xs ys : List Formula) → Stands t (xs ++ ys) → St
 stands_either t xs ys i =
     let r = from_terms t (xs ++ ys) i in
     ⊎_elim (λ j. inl (in_terms t r.0 xs j r.2)) (λ j. inr (in_terms t r.0 ys j r.2)) (in_either r.0 xs ys r.1)
+
+-- in what shows a restraint, such an atom by the alternative is there before A is applied
+closed_later : (A B : Implication) {F H : List Formula} {f h k : Assignment} → ShowsRestraint A B F H f h k → (b : Formula) → In b B.head → opens? B b ≡ false → In (under k b) H
+closed_later A B {F} {H} {f} {h} {k} w b i closed =
+    subst (λ x. In x H) (sym (closed_same B h k w.alternative.agrees b i closed))
+    (w.contains (under h b) (in_right (under h b) F (map (under h) B.head) (in_map (under h) b B.head i)))
 
 -- all that shows the restraint, but that there is no alternative too early
 pub record Ready (A B : Implication) (σ : Subst) (old : List Formula) : Type 0 where
@@ -177,12 +213,12 @@ module _ (A B : Implication) (ba : Bounded A) (bb : Bounded B) (rigid : ℕ → 
 
   pub slots_b : Each (λ a. Each Slotted a.terms) Heads
   slots_b s i =
-      let r = from_map (shift_formula B) s B.head i in
+      let r = from_shifted B s i in
       subst (λ (z : Formula). Each Slotted z.terms) (sym r.2) (shift_slotted B r.0.terms (head_b r.0 r.1))
 
   sizes_b : Sizes B → Each Sized Heads
   sizes_b sb s i =
-      let r = from_map (shift_formula B) s B.head i in
+      let r = from_shifted B s i in
       subst Sized (sym r.2) (at r.0 (sb.head r.0 r.1))
     where
       at : (b : Formula) → Sized b → Sized (shift_formula B b)
@@ -267,7 +303,8 @@ module _ (A B : Implication) (ba : Bounded A) (bb : Bounded B) (rigid : ℕ → 
 
       covered : Each (λ b. In (under h_k b) (result A h_a D)) B.head
       covered b i =
-          ⊎_elim (λ j. absurd j)
+          ⊎_elim
+          (λ g. ⊎_elim (λ j. absurd j)
           (λ j. ⊎_elim
           (λ k. in_left (under h_k b) D (map (under h_a) A.head)
           (in_right (under h_k b) (result B h_b C) (extra_of A σ old)
@@ -278,7 +315,12 @@ module _ (A B : Implication) (ba : Bounded A) (bb : Bounded B) (rigid : ℕ → 
           (through_first z.0 (head_a z.0 z.1) ∙ z.2 ∙ sym (through_shift b i))
           (in_map (under h_a) z.0 A.head z.1)))
           j)
-          (r.covers (shift_formula B b) (in_map (shift_formula B) b B.head i))
+          (r.covers (shift_formula B b) g))
+          (λ closed. in_left (under h_k b) D (map (under h_a) A.head)
+          (in_left (under h_k b) (result B h_b C) (extra_of A σ old)
+          (in_right (under h_k b) C (map (under h_b) B.head)
+          (subst (λ x. In x (map (under h_b) B.head)) (sym (closed_same B h_b h_k agrees_b b i closed)) (in_map (under h_b) b B.head i)))))
+          (gone_or_closed B b i)
 
       ready_at : Sizes A → Sizes B → Open A B σ old → Ready A B σ old
       ready_at sa sb o = record {
@@ -464,7 +506,7 @@ module _ (A B : Implication) (ba : Bounded A) (bb : Bounded B) (rigid : ℕ → 
 
     split_at : (b : Formula) → In b Heads → Followed A B rigid σ (old ++ (b ∷ [])) ⊎ Child b
     split_at b i =
-        let q = from_map (shift_formula B) b B.head i in
+        let q = from_shifted B b i in
         let actual-b : under (slot θ 12) b ≡ under k q.0 = ap (under (slot θ 12)) q.2 ∙ third_under q.0 q.1 in
         ⊎_elim
         (λ j. inl (record {
@@ -530,7 +572,7 @@ module _ (A B : Implication) (ba : Bounded A) (bb : Bounded B) (rigid : ℕ → 
 
       old_lift : (o : Formula) → In o old → lift θ (under (h_s σ old) o) ≡ under (slot θ 12) o
       old_lift o i =
-          let r = from_map (shift_formula B) o B.head (from o i) in
+          let r = from_shifted B o (from o i) in
           ap (λ z. lift θ (under (h_s σ old) z)) r.2 ∙ ap (lift θ) (under_shift B (h_s σ old) r.0) ∙ shifted_lift r.0 r.1 ∙ ap (under (slot θ 12)) (sym r.2)
 
       into_before : Into θ (C σ old) F
@@ -648,22 +690,25 @@ module _ (A B : Implication) (ba : Bounded A) (bb : Bounded B) (rigid : ℕ → 
   follow_some_new σ old all w =
       w.shows.none w.other (record {
         agrees = w.shows.alternative.agrees;
-        present = λ b i. subst (λ x. In x w.later) (third_under σ old w b i) (w.actual (shift_formula B b) (all (shift_formula B b) (in_map (shift_formula B) b B.head i)));
+        present = λ b i. ⊎_elim
+            (λ g. subst (λ x. In x w.later) (third_under σ old w b i) (w.actual (shift_formula B b) (all (shift_formula B b) g)))
+            (closed_later A B w.shows b i)
+            (gone_or_closed B b i);
         spared = w.shows.alternative.spared;
         given = w.shows.alternative.given;
         absent = w.shows.alternative.absent;
       })
 
   -- an atom of B's head, as the alternative reads it, is old, or unified with an atom of A's head
-  pub follow_split : (σ : Subst) (old : List Formula) (b : Formula) → In b (map (shift_formula B) B.head) → Followed A B rigid σ old
+  pub follow_split : (σ : Subst) (old : List Formula) (b : Formula) → In b (shifted B) → Followed A B rigid σ old
       → Followed A B rigid σ (old ++ (b ∷ [])) ⊎ ((a : Formula) × In a A.head × ((τ : Subst) × (unify_formulas rigid 0 12 a b σ ≡ Some τ) × Followed A B rigid τ old))
   follow_split σ old b i w = split_at σ old w b i
 
-  pub follow_open : (σ : Subst) (old : List Formula) → Each (λ o. In o (map (shift_formula B) B.head)) old → Followed A B rigid σ old → Open A B σ old
+  pub follow_open : (σ : Subst) (old : List Formula) → Each (λ o. In o (shifted B)) old → Followed A B rigid σ old → Open A B σ old
   follow_open σ old from w = open_at σ old w from
 
   -- where there is an alternative too early, some null in it is one that the application gave
-  pub follow_refine : (σ : Subst) (old : List Formula) → Each (λ o. In o (map (shift_formula B) B.head)) old → Followed A B rigid σ old
+  pub follow_refine : (σ : Subst) (old : List Formula) → Each (λ o. In o (shifted B)) old → Followed A B rigid σ old
       → (k : Assignment) (v : ℕ) → ((u : ℕ) → Universal B u → k u ≡ look (part σ 12) u)
       → Each (λ a. In (under k a) (later_of A B σ old)) B.head → Existential B v
       → (Stands (Null (12 + v)) (map (under k) B.head) → ⊥)
@@ -674,17 +719,20 @@ module _ (A B : Implication) (ba : Bounded A) (bb : Bounded B) (rigid : ℕ → 
 pub none_without : (A B : Implication) → ((v : ℕ) → Existential B v → ⊥) → Restraint A B → ⊥
 none_without A B none r = none r.shows.alternative.spared r.shows.alternative.given
 
--- where no atom of B's head has the predicate of an atom of A's head, A does not restrain B
-pub no_shared : (A B : Implication) → shares? A.head B.head ≡ false → Restraint A B → ⊥
+-- where no atom of B's head that is gone through has the predicate of an atom of A's head, A does not restrain B
+pub no_shared : (A B : Implication) → shares? A.head (shifted B) ≡ false → Restraint A B → ⊥
 no_shared A B e r =
     let w = r.shows.alternative in
     r.shows.none r.other (record {
       agrees = w.agrees;
-      present = λ b i.
+      present = λ b i. ⊎_elim
+          (λ g.
           ⊎_elim (λ j. j)
           (λ j. let z = from_map (under r.first) (under r.other b) A.head j in
-          absurd (unshared A.head B.head e z.0 b z.1 i (sym (ap (λ (x : Formula). x.predicate) z.2))))
-          (in_either (under r.other b) r.later (map (under r.first) A.head) (w.present b i));
+          absurd (unshared A.head (shifted B) e z.0 (shift_formula B b) z.1 g (sym (ap (λ (x : Formula). x.predicate) z.2))))
+          (in_either (under r.other b) r.later (map (under r.first) A.head) (w.present b i)))
+          (closed_later A B r.shows b i)
+          (gone_or_closed B b i);
       spared = w.spared;
       given = w.given;
       absent = w.absent;

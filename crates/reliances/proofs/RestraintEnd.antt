@@ -7,7 +7,7 @@ use Rattle.rules.specs.declared.Term.TheVariants.{Variable, Null}
 use Rattle.rules.specs.declared.Atom.{Atom}
 use Rattle.rules.specs.declared.rule.Rule.{Rule}
 use Rattle.rules.specs.Logic.{In, Each, Formula, Implication, formula_of}
-use Rattle.rules.specs.Bounds.{body_of, head_of}
+use Rattle.rules.specs.Bounds.{body_of, head_of, flags, FlagsAre}
 use Rattle.rules.specs.Matches.{Ground, Assignment, Stands, value, under, result}
 use Rattle.rules.specs.Reliances.{Alternative, ShowsRestraint}
 use Rattle.rules.specs.Rules.{meaning}
@@ -19,7 +19,7 @@ use Rattle.matches.proofs.Basics.{in_map, from_map, in_terms, from_terms, under_
 use Rattle.matches.proofs.Bounded.{Bounded, bounded, by_formula}
 use Rattle.reliances.specs.declared.sheet.Kind.TheVariants.{Restraint}
 use Rattle.reliances.specs.declared.sheet.Sheet.{Sheet}
-use Rattle.reliances.specs.Unification.{Subst, through, flags, flexible, rigid_both, FlagsAre, part, wide, shift_var, other, moved, loose_count, before_of, later_of}
+use Rattle.reliances.specs.Unification.{Subst, through, flexible, rigid_both, part, wide, shift_var, other, moved, loose_count, before_of, later_of}
 use Rattle.reliances.specs.Following.{Small, Node}
 use Rattle.reliances.specs.Sheets.{first_list, second_list, later_facts, ShowsRestrained}
 use Rattle.reliances.specs.RestraintSearch.{shifted, IsChoice, Open, IsFound}
@@ -65,15 +65,14 @@ module _ (A B : Rule) (rigid : List Bool) (is : FlagsAre rigid (rigid_both (mean
   none_open rest n shut w = shut (restraint.follow_open (meaning A) (meaning B) (bounded A) (bounded B) (flags rigid) is σ (formulas old) n.reached.old_from w)
 
   -- where every atom is old, no witness follows
-  pub none_new : (head : List Atom) → NodeHere σ [] → head ≡ head_of B.parts → length head ≤ length old → Deserted Restraint A B rigid σ old
-  none_new head n e l =
+  pub none_new : (count : ℕ) → NodeHere σ [] → count ≡ length (shifted (meaning B)) → count ≤ length old → Deserted Restraint A B rigid σ old
+  none_new count n e l =
       restraint.follow_some_new (meaning A) (meaning B) (bounded A) (bounded B) (flags rigid) is σ (formulas old) (λ b i. ⊎_elim (λ j. absurd j) (λ j. j) (n.left.all full b i))
     where
       full : length (formulas old) + 0 ≡ length (shifted (meaning B))
       full =
           let few = n.left.few in
           let p : length (formulas old) ≡ length old = length-map old formula_of in
-          let q : length (shifted (meaning B)) ≡ length head = length-map (meaning B).head _ ∙ length-map (head_of B.parts) formula_of ∙ ap length (sym e) in
           omega arith
 
   -- what the end of a way shows

@@ -11,14 +11,14 @@ use Rattle.rules.specs.declared.Term.TheVariants.{Constant, Variable, Null}
 use Rattle.rules.specs.declared.Atom.{Atom}
 use Rattle.rules.specs.declared.rule.Rule.{Rule}
 use Rattle.rules.specs.Logic.{Formula, formula_of, Existential}
-use Rattle.rules.specs.Bounds.{body_of, head_of}
+use Rattle.rules.specs.Bounds.{body_of, head_of, flags, FlagsAre}
 use Rattle.rules.specs.Matches.{Assignment, Stands, under, Satisfied, result}
 use Rattle.rules.specs.Rules.{meaning}
 use Rattle.rules.proofs.Membership.{in_left, decides_false}
 use Rattle.matches.specs.Lists.{look, formulas, under_atom}
 use Rattle.matches.proofs.Basics.{in_terms, from_terms, map_same}
 use Rattle.matches.proofs.Bounded.{bounded}
-use Rattle.reliances.specs.Unification.{Subst, flags, rigid?, rigid_both, FlagsAre, part, wide, shift_term, shift_formula, other, before_of, extra_of, later_of, HasRigid}
+use Rattle.reliances.specs.Unification.{Subst, rigid?, rigid_both, part, wide, shift_term, shift_formula, other, before_of, extra_of, later_of, HasRigid}
 use Rattle.reliances.specs.RestraintSearch.{shift_by, shift_atom, laid_before, laid_extra, laid_later, SomeSpared, Open}
 use Rattle.reliances.proofs.Unify.{elim_true, elim_false}
 use Rattle.reliances.proofs.Slots.{decides_rigid}

@@ -1,27 +1,30 @@
 -- From node to node of either search, by its kind, and what is known after all heads were tried.
 -- Assumes nothing.
-use Rattle.std.proofs.Common.{◌≡◌, ℕ, ◌<◌, Bool, true, ◌⊎◌, List, [], ◌∷◌, ◌++◌, length, get_or, Option, Some, None, sym, refl, ap, ◌∙◌, subst, inl, ⊎_elim}
-use Rattle.std.proofs.lemmas.List.{map-append}
+use Rattle.std.proofs.Common.{◌≡◌, ℕ, suc, cond, ◌<◌, ◌≤◌, Bool, true, false, Decides, ◌⊎◌, List, [], ◌∷◌, ◌++◌, length, get_or, Option, Some, None, sym, refl, ap, ◌∙◌, subst, inl, ⊎_elim, arith}
+use Rattle.std.proofs.lemmas.List.{map-append, length-map, length-take}
 use Rattle.std.proofs.lemmas.Bool.{false≢true}
 use Rattle.std.proofs.lemmas.Option.{none-some}
 use Rattle.rules.specs.declared.Term.TheVariants.{Null}
 use Rattle.rules.specs.declared.Atom.{Atom}
 use Rattle.rules.specs.declared.rule.Rule.{Rule}
 use Rattle.rules.specs.Logic.{In, Each, Formula, formula_of}
-use Rattle.rules.specs.Bounds.{head_of}
+use Rattle.rules.specs.Bounds.{head_of, flags, FlagsAre}
 use Rattle.rules.specs.Rules.{meaning}
+use Rattle.rules.proofs.Membership.{decides_false}
 use Rattle.matches.specs.Lists.{look, formulas}
 use Rattle.matches.proofs.Basics.{in_map, from_map}
 use Rattle.matches.proofs.Bounded.{bounded}
 use Rattle.reliances.specs.declared.sheet.Kind.{Kind}
 use Rattle.reliances.specs.declared.sheet.Kind.TheVariants.{Positive, Restraint}
 use Rattle.reliances.specs.declared.sheet.Sheet.{Sheet}
-use Rattle.reliances.specs.Unification.{Subst, start, unify_formulas, flags, FlagsAre}
+use Rattle.reliances.specs.Unification.{Subst, start, unify_formulas}
 use Rattle.reliances.specs.Following.{Small, Node}
-use Rattle.reliances.specs.Sheets.{first_list, later_facts, Shows, Holds, Found}
+use Rattle.reliances.specs.Sheets.{first_list, later_facts, Shows, Holds, Answered}
+use Rattle.std.specs.List.{filter}
+use Rattle.reliances.specs.RestraintSearch.{opens?, shifted}
 use Rattle.reliances.specs.Searching.{gone, rigid_for, Follows, Deserted, Searched}
 use Rattle.reliances.proofs.Unify.{Slotted, some_same}
-use Rattle.reliances.proofs.Nodes.{no_atom, node_start, node_old, node_new, get_d_in}
+use Rattle.reliances.proofs.Nodes.{makes, no_atom, node_start, node_old, node_new, get_d_in}
 use Rattle.reliances.proofs.Positive as positive
 use Rattle.reliances.proofs.Restraint as restraint
 
@@ -62,6 +65,12 @@ shows_holds Restraint A B s w = record {
   other = look s.alternative;
   shows = w.shows;
 }
+
+-- what a no says
+pub said_no : (kind : Kind) (A B : Rule) (rigid : List Bool) (σ : Subst) (old : List Atom) (s t : Sheet) (r : Bool) → r ≡ false → Searched r kind A B rigid σ old s t
+    → Deserted kind A B rigid σ old × (t ≡ s)
+said_no kind A B rigid σ old s t true e shows = absurd (false≢true (sym e))
+said_no kind A B rigid σ old s t false e left = left
 
 -- the head atom a is not what the atom b is
 abbrev pub NotJoined : Kind → Rule → Rule → List Bool → Subst → List Atom → Atom → Atom → Type 0
@@ -108,10 +117,44 @@ module _ (kind : Kind) (A B : Rule) (rigid : List Bool) (is : Flagged kind A B r
     next_in = node.reached.rest_from (formula_of b) (inl refl)
 
   -- an answer from the last child is one from the node
-  pub searched_old : (r : Option Sheet) (old more heads : List Atom) (b : Atom) → In (formula_of b) (gone kind (meaning B)) → heads ≡ head_of A.parts
-      → Each (NotJoined kind A B rigid σ old b) heads → more ≡ old ++ (b ∷ []) → Searched r kind A B rigid σ more → Searched r kind A B rigid σ old
-  searched_old (Some s) old more heads b i e tried m shows = shows
-  searched_old None old more heads b i e tried m left = none_follows old heads b i e tried (subst (Deserted kind A B rigid σ) m left)
+  pub searched_old : (r : Bool) (s t u : Sheet) (old more heads : List Atom) (b : Atom) → In (formula_of b) (gone kind (meaning B)) → heads ≡ head_of A.parts
+      → Each (NotJoined kind A B rigid σ old b) heads → more ≡ old ++ (b ∷ []) → t ≡ s → Searched r kind A B rigid σ more t u → Searched r kind A B rigid σ old s u
+  searched_old true s t u old more heads b i e tried m same shows = shows
+  searched_old false s t u old more heads b i e tried m same left = (none_follows old heads b i e tried (subst (Deserted kind A B rigid σ) m left.0), left.1 ∙ same)
+
+pub few_open : {X : Type 0} (p : X → Bool) (xs : List X) → length (filter p xs) ≤ length xs
+few_open p [] = omega arith
+few_open p (x ∷ xs) = at (p x) (few_open p xs)
+  where
+    at : (b : Bool) → length (filter p xs) ≤ length xs → length (cond b (x ∷ filter p xs) (filter p xs)) ≤ suc (length xs)
+    at true l = omega arith
+    at false l = omega arith
+
+-- a search goes through six atoms at most, that for a restraint through four
+pub few_heads : (B : Rule) → length (head_of B.parts) ≤ 4
+few_heads B = let few = (makes B).few_head in simp length-take (omega arith)
+
+pub few_shifted : (B : Rule) → length (shifted (meaning B)) ≤ 4
+few_shifted B =
+    let few = few_open (opens? (meaning B)) (meaning B).head in
+    let heads = few_heads B in
+    let same = length-map (head_of B.parts) formula_of in
+    simp length-map (omega (arith, few, heads, same))
+
+few_gone : (kind : Kind) (B : Rule) → length (gone kind (meaning B)) ≤ 6
+few_gone Positive B =
+    let few = (makes B).few_body in
+    simp (length-map, length-take) (omega arith)
+few_gone Restraint B = let few = few_shifted B in omega (arith, few)
+
+-- so there is room for one more that is left old
+pub room : (kind : Kind) (A B : Rule) (rigid : List Bool) (σ : Subst) (old rest : List Atom) (b : Atom) → Node (meaning A).head (gone kind (meaning B)) rigid σ old (b ∷ rest) → length old < 6
+room kind A B rigid σ old rest b node =
+    let few = few_gone kind B in
+    let left = node.left.few in
+    let p = length-map old formula_of in
+    let q = length-map rest formula_of in
+    omega (arith, few, left, p, q)
 
 -- the search from the start on
 module _ (kind : Kind) (A B : Rule) (rigid : List Bool) (is : Flagged kind A B rigid) where
@@ -120,6 +163,19 @@ module _ (kind : Kind) (A B : Rule) (rigid : List Bool) (is : Flagged kind A B r
       subst (λ z. Node (meaning A).head (gone kind (meaning B)) rigid z [] atoms) (sym e)
       (node_start (meaning A).head (gone kind (meaning B)) (slots_heads kind A B rigid is) (slots_gone kind A B rigid is) rigid (start_keeps kind A B rigid is) atoms p small)
 
-  pub answered : (r : Option Sheet) (σ : Subst) → σ ≡ start → Searched r kind A B rigid σ [] → Found r kind A B
-  answered (Some s) σ e shows = shows
-  answered None σ e left = λ w. left (subst (λ z. Follows kind (meaning A) (meaning B) (flags rigid) z []) (sym e) (follow_start kind A B rigid is w))
+  pub answered : (r : Bool) (σ : Subst) (s t : Sheet) → σ ≡ start → Searched r kind A B rigid σ [] s t → Answered r kind A B s t
+  answered true σ s t e shows = shows
+  answered false σ s t e left = (λ w. left.0 (subst (λ z. Follows kind (meaning A) (meaning B) (flags rigid) z []) (sym e) (follow_start kind A B rigid is w)), left.1)
+
+-- what an answer says
+pub answer_decides : (r : Bool) (kind : Kind) (A B : Rule) (s t : Sheet) → Answered r kind A B s t → Decides r (Holds kind A B)
+answer_decides true kind A B s t shows = (λ e. shows_holds kind A B t shows, λ h. refl)
+answer_decides false kind A B s t left = decides_false left.0
+
+pub answer_shows : (r : Bool) (kind : Kind) (A B : Rule) (s t : Sheet) → Answered r kind A B s t → r ≡ true → Shows kind A B t
+answer_shows true kind A B s t shows e = shows
+answer_shows false kind A B s t left e = absurd (false≢true e)
+
+pub answer_keeps : (r : Bool) (kind : Kind) (A B : Rule) (s t : Sheet) → Answered r kind A B s t → r ≡ false → t ≡ s
+answer_keeps true kind A B s t shows e = absurd (false≢true (sym e))
+answer_keeps false kind A B s t left e = left.1

@@ -1,12 +1,13 @@
 -- How an actual witness follows a search: every slot has an actual value, and the substitution respects them.
 use Rattle.std.specs.Prelude.{◌≡◌, ℕ, ◌+◌, ◌-◌, ◌<◌, ◌≤◌, Bool, true, cond, ◌⊎◌, List, length, nat_lt}
+use Rattle.rules.specs.Bounds.{flags}
 use Rattle.rules.specs.declared.Term.{Term}
 use Rattle.rules.specs.declared.Term.TheVariants.{Constant, Variable, Null}
 use Rattle.rules.specs.declared.Atom.{Atom}
 use Rattle.rules.specs.Logic.{In, Each, Formula}
 use Rattle.rules.specs.Matches.{Ground, Assignment, under}
 use Rattle.matches.specs.Lists.{look, formulas}
-use Rattle.reliances.specs.Unification.{Subst, through, flags}
+use Rattle.reliances.specs.Unification.{Subst, through}
 
 -- the actual value of a symbolic term: a null stands for what its slot has
 abbrev pub hat : (ℕ → Term) → Term → Term

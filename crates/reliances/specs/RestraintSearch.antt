@@ -5,19 +5,25 @@ use Rattle.rules.specs.declared.Term.{Term}
 use Rattle.rules.specs.declared.Term.TheVariants.{Constant, Variable, Null}
 use Rattle.rules.specs.declared.Atom.{Atom}
 use Rattle.rules.specs.declared.rule.Rule.{Rule}
-use Rattle.rules.specs.Bounds.{body_of, head_of}
+use Rattle.rules.specs.Bounds.{some, body_of, head_of, flags}
 use Rattle.rules.specs.Logic.{In, Each, Formula, Implication, Existential}
 use Rattle.rules.specs.Matches.{Stands, Assignment, value, under, Satisfied}
 use Rattle.rules.specs.Reliances.{Alternative, ShowsRestraint}
 use Rattle.matches.specs.Lists.{look, under_atom, Spares}
 use Rattle.reliances.specs.declared.sheet.Sheet.{Sheet}
 use Rattle.reliances.specs.declared.restraint_search.Early.{Early}
-use Rattle.reliances.specs.Unification.{Subst, through, flags, flexible, part, wide, shift_formula, other, before_of, later_of}
+use Rattle.std.specs.List.{filter}
+use Rattle.reliances.specs.Unification.{Subst, existential_term?, through, flexible, part, wide, shift_formula, other, before_of, later_of}
 use Rattle.reliances.specs.Following.{Good, slot, three}
 
--- the atoms of B's head as the alternative reads them
+-- an existential variable of B stands in the formula
+abbrev pub opens? : Implication → Formula → Bool
+opens? B a = some (existential_term? B) a.terms
+
+-- the atoms of B's head that are gone through, as the alternative reads them. Those in which no existential variable stands are
+-- facts wherever B was applied
 abbrev pub shifted : Implication → List Formula
-shifted B = map (shift_formula B) B.head
+shifted B = map (shift_formula B) (filter (opens? B) B.head)
 
 -- some facts and matches that show the restraint follow the search to the node
 pub record Followed (A B : Implication) (rigid : ℕ → Bool) (σ : Subst) (old : List Formula) : Type 0 where

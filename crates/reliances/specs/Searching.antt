@@ -1,5 +1,6 @@
 -- What is known at a node of either search, by its kind (below the public contracts).
-use Rattle.std.specs.Prelude.{◌≡◌, ℕ, Bool, true, List, Some, None, Option}
+use Rattle.std.specs.Prelude.{◌≡◌, ℕ, Bool, true, false, List}
+use Rattle.rules.specs.Bounds.{flags}
 use Rattle.rules.specs.declared.Atom.{Atom}
 use Rattle.rules.specs.declared.rule.Rule.{Rule}
 use Rattle.rules.specs.Logic.{Formula, Implication}
@@ -8,7 +9,7 @@ use Rattle.matches.specs.Lists.{formulas}
 use Rattle.reliances.specs.declared.sheet.Kind.{Kind}
 use Rattle.reliances.specs.declared.sheet.Kind.TheVariants.{Positive, Restraint}
 use Rattle.reliances.specs.declared.sheet.Sheet.{Sheet}
-use Rattle.reliances.specs.Unification.{Subst, flags, rigid?, rigid_both}
+use Rattle.reliances.specs.Unification.{Subst, rigid?, rigid_both}
 use Rattle.reliances.specs.Following.{Node}
 use Rattle.reliances.specs.PositiveSearch as positive
 use Rattle.reliances.specs.RestraintSearch as restraint
@@ -41,7 +42,8 @@ Shut r kind A B rigid σ old = r ≡ true → Deserted kind A B rigid σ old
 abbrev pub OnWay : Kind → Rule → Rule → List Bool → Subst → List Atom → List Atom → Type 0
 OnWay kind A B rigid σ old rest = Node (meaning A).head (gone kind (meaning B)) rigid σ old rest
 
--- an answer of the search from a node on: a sheet that shows the relation, or none, where no facts and matches follow
-abbrev pub Searched : Option Sheet → Kind → Rule → Rule → List Bool → Subst → List Atom → Type 0
-Searched (Some s) kind A B rigid σ old = Shows kind A B s
-Searched None kind A B rigid σ old = Deserted kind A B rigid σ old
+-- an answer of the search from a node on. A yes: the sheet shows the relation. A no: no facts and matches follow, and the sheet
+-- is as it was
+abbrev pub Searched : Bool → Kind → Rule → Rule → List Bool → Subst → List Atom → Sheet → Sheet → Type 0
+Searched true kind A B rigid σ old before after = Shows kind A B after
+Searched false kind A B rigid σ old before after = Deserted kind A B rigid σ old × (after ≡ before)

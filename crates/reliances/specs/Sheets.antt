@@ -1,5 +1,5 @@
 -- What a sheet shows, and what an answer with a sheet says.
-use Rattle.std.specs.Prelude.{◌≡◌, ℕ, ◌≤◌, ◌⊎◌, List, ◌++◌, take, Some, None, Option}
+use Rattle.std.specs.Prelude.{◌≡◌, ℕ, ◌≤◌, ◌⊎◌, Bool, true, false, List, ◌++◌, take}
 use Rattle.rules.specs.declared.Atom.{Atom}
 use Rattle.rules.specs.declared.rule.Rule.{Rule}
 use Rattle.rules.specs.Logic.{Each, Formula, Implication, Universal, Existential}
@@ -68,7 +68,7 @@ abbrev pub Holds : Kind → Rule → Rule → Type 0
 Holds Positive A B = PositiveReliance (meaning A) (meaning B)
 Holds Restraint A B = Restrained (meaning A) (meaning B)
 
--- what comes of looking for a sheet: one that shows the relation, or none where it does not hold
-abbrev pub Found : Option Sheet → Kind → Rule → Rule → Type 0
-Found (Some s) kind A B = Shows kind A B s
-Found None kind A B = Holds kind A B → ⊥
+-- an answer. A yes: the sheet shows the relation. A no: it does not hold, and the sheet is as it was
+abbrev pub Answered : Bool → Kind → Rule → Rule → Sheet → Sheet → Type 0
+Answered true kind A B before after = Shows kind A B after
+Answered false kind A B before after = (Holds kind A B → ⊥) × (after ≡ before)

@@ -55,10 +55,6 @@ abbrev pub unify_formulas : (ℕ → Bool) → ℕ → ℕ → Formula → Formu
 unify_formulas rigid m n a b σ =
     elim (a.predicate == b.predicate) [ true ↦ unify_all rigid m n a.terms b.terms σ | false ↦ None ]
 
--- a list of flags as a test
-abbrev pub flags : List Bool → ℕ → Bool
-flags rs r = slice_index_or rs r false
-
 -- the slot of an existential variable of A keeps its null
 abbrev pub rigid? : Implication → ℕ → Bool
 rigid? A r = existential? A r
@@ -66,6 +62,12 @@ rigid? A r = existential? A r
 -- so does that of an existential variable of B
 abbrev pub rigid_both : Implication → Implication → ℕ → Bool
 rigid_both A B r = elim (nat_lt r 12) [ true ↦ rigid? A r | false ↦ rigid? B (r - 12) ]
+
+-- the term is an existential variable of A
+abbrev pub existential_term? : Implication → Term → Bool
+existential_term? A (Constant c) = false
+existential_term? A (Variable v) = rigid? A v
+existential_term? A (Null n) = false
 
 -- n nulls, numbered from k on
 abbrev pub numbered : ℕ → ℕ → List Term
@@ -146,7 +148,3 @@ any_rigid? rigid = some (is_rigid? rigid)
 -- the null of a rigid slot stands in one of the formulas
 abbrev pub HasRigid : (ℕ → Bool) → List Formula → Type 0
 HasRigid rigid F = (r : ℕ) × (rigid r ≡ true) × Stands (Null r) F
-
--- the flags are what the test says of each slot
-abbrev pub FlagsAre : List Bool → (ℕ → Bool) → Type 0
-FlagsAre rs rigid = (k : ℕ) → flags rs k ≡ rigid k

@@ -54,8 +54,8 @@ pub(crate) fn push_all<const N: usize>(atoms: &[Atom], into: &mut ArrayVec<Atom,
     into.try_extend_from_slice(atoms).unwrap();
 }
 
-// Whether one of the atoms has the predicate.
-fn any_of(atoms: &[Atom], predicate: u16) -> bool
+/// Whether one of the atoms has the predicate.
+pub(crate) fn any_of(atoms: &[Atom], predicate: u16) -> bool
     ensures { result ≡ some (of? predicate) (formulas atoms.now) }
 {
     atoms.iter().any(|a| a.predicate == predicate)

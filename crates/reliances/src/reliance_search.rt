@@ -1,10 +1,10 @@
 // The nodes of the search for a positive reliance, and the end of a way.
 ghost use Rattle.std.specs.Prelude.{◌≡◌, ◌+◌, ◌≤◌, [], ◌++◌, map, length, Decides};
 ghost use Rattle.rules.specs.Rules.{meaning};
-ghost use Rattle.rules.specs.Bounds.{body_of};
+ghost use Rattle.rules.specs.Bounds.{body_of, flags};
 ghost use Rattle.matches.specs.Lists.{look, formulas, under_atom};
 ghost use Rattle.reliances.specs.declared.sheet.Kind.TheVariants.{Positive};
-ghost use Rattle.reliances.specs.Unification.{flags, part};
+ghost use Rattle.reliances.specs.Unification.{part};
 ghost use Rattle.reliances.specs.PositiveSearch.{Open, IsFound};
 ghost use Rattle.reliances.specs.Searching.{OnWay, Shut, Searched};
 
@@ -25,20 +25,21 @@ impl Relation for Relies {
     ghost KIND = { Positive };
 
     fn is_shut(asked: &Question<Relies>, way: &Way) -> bool {
-        if way.old.len() + way.rest.len() >= asked.second.body().len() {
+        if way.old.len() + way.rest.len() >= asked.count {
             return false;
         }
         !is_open(asked, way)
     }
 
     // Some atom has to be new, and nothing may rule the reliance out.
-    fn finish(asked: &Question<Relies>, way: &Way) -> Option<Sheet> {
-        if way.old.len() >= asked.second.body().len() || !is_open(asked, way) {
-            return None;
+    fn finish(asked: &Question<Relies>, way: &Way, sheet: &mut Sheet) -> bool {
+        if way.old.len() >= asked.count || !is_open(asked, way) {
+            return false;
         }
         sized(asked.first);
         sized(asked.second);
-        Some(found_sheet(asked, way))
+        *sheet = found_sheet(asked, way);
+        true
     }
 }
 

@@ -26,18 +26,18 @@ impl Relation for Restrains {
     ghost KIND = { Restraint };
 
     fn is_shut(asked: &Question<Restrains>, way: &Way) -> bool {
-        if way.old.len() + way.rest.len() >= asked.second.head().len() {
+        if way.old.len() + way.rest.len() >= asked.count {
             return false;
         }
         !is_open(asked, way, &later(asked, way))
     }
 
     // Some atom has to be new, and nothing may rule the restraint out.
-    fn finish(asked: &Question<Restrains>, way: &Way) -> Option<Sheet> {
-        if way.old.len() >= asked.second.head().len() {
-            return None;
+    fn finish(asked: &Question<Restrains>, way: &Way, sheet: &mut Sheet) -> bool {
+        if way.old.len() >= asked.count {
+            return false;
         }
-        settle(asked, way)
+        settle(asked, way, sheet)
     }
 }
 
@@ -214,15 +214,15 @@ fn found_sheet(asked: &Question<Restrains>, way: &Way) -> Sheet
 
 // The end of a way. An alternative that comes too early is no alternative where one of its flexible nulls is the one that it
 // spares: so each of them is tried as that null.
-fn settle(asked: &Question<Restrains>, way: &Way) -> Option<Sheet>
+fn settle(asked: &Question<Restrains>, way: &Way, sheet: &mut Sheet) -> bool
     requires few { length way.now.old.now ≤ 3 }
     requires node { OnWay Restraint asked.now.first.now asked.now.second.now asked.now.rigid way.now.sigma.now way.now.old.now [] }
-    ensures { Searched result Restraint asked.now.first.now asked.now.second.now asked.now.rigid way.now.sigma.now way.now.old.now }
+    ensures { Searched result Restraint asked.now.first.now asked.now.second.now asked.now.rigid way.now.sigma.now way.now.old.now sheet.old sheet.new }
 {
     let sigma = way.sigma;
     let list = later(asked, way);
     if !is_open(asked, way, &list) {
-        return None;
+        return false;
     }
     let second = Trigger {
         rule: asked.second,
@@ -232,7 +232,8 @@ fn settle(asked: &Question<Restrains>, way: &Way) -> Option<Sheet>
     let Some(early) = find_early(second) else {
         sized(asked.first);
         sized(asked.second);
-        return Some(found_sheet(asked, way));
+        *sheet = found_sheet(asked, way);
+        return true;
     };
     let mut given: ArrayVec<Atom, 4> = ArrayVec::new();
     push_each(asked.second.head(), &Under(&early.values), &mut given);
@@ -244,10 +245,10 @@ fn settle(asked: &Question<Restrains>, way: &Way) -> Option<Sheet>
                 sigma: &tau,
                 ..*way
             };
-            if let Some(sheet) = settle(asked, &refined) {
-                return Some(sheet);
+            if settle(asked, &refined, sheet) {
+                return true;
             }
         }
     }
-    None
+    false
 }

@@ -1,14 +1,15 @@
 // The 36 slots of a search: the first rule's variables, the second rule's, and the values of an alternative.
 // The flags of rigid slots are a list of their own: they stay as they are through a search, while the slots change.
 ghost use Rattle.std.specs.Prelude.{◌≡◌, ◌≤◌, Decides};
+ghost use Rattle.rules.specs.Bounds.{flags, FlagsAre};
 ghost use Rattle.rules.specs.Logic.{formula_of};
 ghost use Rattle.rules.specs.Rules.{meaning};
 ghost use Rattle.matches.specs.Lists.{formulas};
-ghost use Rattle.reliances.specs.Unification.{start, part, wide, flags, is_rigid?, any_rigid?, HasRigid, FlagsAre};
+ghost use Rattle.reliances.specs.Unification.{start, part, wide, is_rigid?, any_rigid?, HasRigid};
 ghost use Rattle.reliances.specs.Searching.{rigid_for};
 
 use crate::Kind;
-use rules::{Atom, Rule, Term};
+use rules::{Atom, Rule, Term, is_flagged};
 use std::array;
 
 /// At first each slot holds the null of its own number.
@@ -65,13 +66,6 @@ pub(crate) fn rigid_slots(kind: Kind, a: &Rule, b: &Rule) -> [bool; 36]
     ensures { FlagsAre result (rigid_for kind (meaning a.now) (meaning b.now)) }
 {
     array::from_fn(|slot| keeps_null(kind, a, b, slot as u16))
-}
-
-/// The flag of a slot; there is none past the list.
-pub(crate) fn is_flagged(rigid: &[bool], slot: u16) -> bool
-    ensures { result ≡ flags rigid.now slot }
-{
-    rigid.get(slot as usize).copied().unwrap_or(false)
 }
 
 fn is_rigid(t: Term, rigid: &[bool]) -> bool

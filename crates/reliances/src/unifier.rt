@@ -2,13 +2,14 @@
 // slot is not rigid can be replaced by another term.
 ghost use Rattle.std.specs.Prelude.{◌≡◌, ◌≤◌, Option, map};
 ghost use Rattle.std.specs.Option.{option_map};
+ghost use Rattle.rules.specs.Bounds.{flags};
 ghost use Rattle.rules.specs.Logic.{formula_of};
 ghost use Rattle.rules.specs.Matches.{value};
-ghost use Rattle.reliances.specs.Unification.{through, replaced, flexible, flags, unify, unify_all, unify_formulas};
+ghost use Rattle.matches.specs.Matching.{same};
+ghost use Rattle.reliances.specs.Unification.{through, replaced, flexible, unify, unify_all, unify_formulas};
 
-use crate::substitution::is_flagged;
 use matches::look_up;
-use rules::{Atom, Term};
+use rules::{Atom, Term, is_flagged};
 
 pub(crate) fn is_flexible(t: Term, rigid: &[bool]) -> bool
     ensures { result ≡ flexible (flags rigid.now) t }
@@ -16,10 +17,10 @@ pub(crate) fn is_flexible(t: Term, rigid: &[bool]) -> bool
     matches!(t, Term::Null(n) if !is_flagged(rigid, n))
 }
 
-fn swapped(x: Term, s: Term, t: Term) -> Term
-    ensures { result ≡ replaced s t x }
+fn is_same(x: Term, s: Term) -> bool
+    ensures { result ≡ same x s }
 {
-    if x == s { t } else { x }
+    x == s
 }
 
 // Puts `t` in the place of `s` in every slot.
@@ -27,7 +28,9 @@ pub(crate) fn replace(sigma: &mut [Term], s: Term, t: Term)
     ensures { sigma.new ≡ map (replaced s t) sigma.old }
 {
     for x in sigma.iter_mut() {
-        *x = swapped(*x, s, t);
+        if is_same(*x, s) {
+            *x = t;
+        }
     }
 }
 

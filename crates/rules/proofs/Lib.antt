@@ -1,4 +1,5 @@
 pub mod Mapped
+pub mod Mapping
 pub mod Membership
 pub mod Alike
 pub mod Bounded

@@ -1,5 +1,5 @@
 -- What parts make a rule: the counts that every rule keeps, as tests and in words.
-use Rattle.std.specs.Prelude.{ℕ, ◌≤◌, Bool, true, false, not, ◌&&◌, List, take, ◌==◌, nat_le}
+use Rattle.std.specs.Prelude.{◌≡◌, ℕ, ◌≤◌, Bool, true, false, not, ◌&&◌, List, take, ◌==◌, nat_le, slice_index_or}
 use Rattle.std.specs.List.{list_all, list_any, count_by, range_with_len}
 use Rattle.rules.specs.declared.Term.{Term}
 use Rattle.rules.specs.declared.Term.TheVariants.{Constant, Variable, Null}
@@ -26,6 +26,18 @@ has? v a = some (is_variable? v) a.terms
 -- the variable stands in the head, and not in the body
 abbrev pub existential? : Implication → ℕ → Bool
 existential? r v = some (has? v) r.head && not (some (has? v) r.body)
+
+-- the variable stands in the body
+abbrev pub universal? : Implication → ℕ → Bool
+universal? r v = some (has? v) r.body
+
+-- a list of flags as a test of numbers; past its end none is set
+abbrev pub flags : List Bool → ℕ → Bool
+flags xs v = slice_index_or xs v false
+
+-- the flags say of each number what the test says
+abbrev pub FlagsAre : List Bool → (ℕ → Bool) → Type 0
+FlagsAre xs test = (v : ℕ) → flags xs v ≡ test v
 
 -- how many of the variables 0 to 11 are existential
 abbrev pub existentials : Implication → ℕ

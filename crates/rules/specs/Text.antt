@@ -5,7 +5,7 @@ use Rattle.rules.specs.declared.Term.{Term}
 use Rattle.rules.specs.declared.Term.TheVariants.{Constant, Variable, Null}
 use Rattle.rules.specs.declared.Atom.{Atom}
 use Rattle.rules.specs.Logic.{Formula, Implication, formula_of}
-use Rattle.rules.specs.Bounds.{some, has?}
+use Rattle.rules.specs.Bounds.{some, has?, universal?}
 
 -- each text with the separator before it
 abbrev pub preceded : List ℕ → List (List ℕ) → List ℕ
@@ -47,10 +47,6 @@ term_text t = term_by (λ v. true) t
 
 abbrev pub formula_text : Formula → List ℕ
 formula_text a = formula_by (λ v. true) a
-
--- in a rule a variable is universal where it stands in the body
-abbrev pub universal? : Implication → ℕ → Bool
-universal? r v = some (has? v) r.body
 
 -- the body, an arrow and the head
 abbrev pub rule_text : Implication → List ℕ

@@ -1,6 +1,6 @@
 ghost use Rattle.std.specs.Prelude.{◌≡◌, [], take, Decides};
 ghost use Rattle.rules.specs.Logic.{formula_of};
-ghost use Rattle.rules.specs.Bounds.{has?};
+ghost use Rattle.rules.specs.Bounds.{has?, flags};
 ghost use Rattle.rules.specs.Same.{same_atom?, same_atom_laws};
 
 use crate::{Atom, Term};
@@ -26,6 +26,13 @@ impl Atom {
     {
         self.args().contains(&Term::Variable(v))
     }
+}
+
+/// The flag of a number; past the list none is set.
+pub fn is_flagged(list: &[bool], n: u16) -> bool
+    ensures { result ≡ flags list.now n }
+{
+    list.get(n as usize).copied().unwrap_or(false)
 }
 
 /// The first `n` of the elements, or all of them.

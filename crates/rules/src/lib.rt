@@ -7,7 +7,7 @@ mod parts;
 mod rule;
 mod show;
 
-pub use args::first;
+pub use args::{first, is_flagged};
 pub use parts::RuleParts;
 pub use rule::Rule;
 

@@ -1,21 +1,23 @@
 ghost use Rattle.std.specs.Prelude.{◌≡◌, Decides};
 ghost use Rattle.rules.specs.Logic.{Universal, Existential};
-ghost use Rattle.rules.specs.Bounds.{body_of, head_of, MakesRule, existential?};
+ghost use Rattle.rules.specs.Bounds.{body_of, head_of, MakesRule, universal?, existential?};
 ghost use Rattle.rules.specs.Rules.{MadeOf, meaning};
-ghost use Rattle.rules.specs.Text.{universal?};
 
-use crate::{Atom, Rule, RuleParts};
+use crate::{Atom, Rule, RuleParts, is_flagged};
 
 impl Rule {
     /// The rule that has these parts, or none where they make no rule.
     pub fn new(parts: RuleParts) -> Option<Rule>
         ensures { MadeOf parts result }
     {
-        if parts.make_rule() {
-            Some(Rule { parts })
-        } else {
-            None
+        if !parts.make_rule() {
+            return None;
         }
+        Some(Rule {
+            parts,
+            universal: parts.flag_universal(),
+            existential: parts.flag_existential(),
+        })
     }
 
     /// The parts that the rule was made from.
@@ -23,7 +25,7 @@ impl Rule {
         ensures same { result ≡ self.now.parts }
         ensures kept { MakesRule result }
     {
-        let Rule { parts } = *self;
+        let Rule { parts, .. } = *self;
         parts
     }
 
@@ -47,7 +49,7 @@ impl Rule {
         ensures value { result ≡ universal? (meaning self.now) v }
         ensures decides { Decides result (Universal (meaning self.now) v) }
     {
-        self.parts.is_in_body(v)
+        is_flagged(&self.universal, v)
     }
 
     /// Whether the variable stands in the head, and not in the body.
@@ -55,6 +57,6 @@ impl Rule {
         ensures value { result ≡ existential? (meaning self.now) v }
         ensures decides { Decides result (Existential (meaning self.now) v) }
     {
-        self.parts.is_only_in_head(v)
+        is_flagged(&self.existential, v)
     }
 }

@@ -1,8 +1,9 @@
-ghost use Rattle.std.specs.Prelude.{◌≡◌, map};
+ghost use Rattle.std.specs.Prelude.{◌≡◌, true, map};
 ghost use Rattle.rules.specs.Logic.{formula_of, implication_of};
-ghost use Rattle.rules.specs.Bounds.{every, some, has?, plain?, rule_atom?, existential?, existentials, makes_rule?, body_of, head_of};
+ghost use Rattle.rules.specs.Bounds.{every, some, has?, plain?, rule_atom?, universal?, existential?, FlagsAre, existentials, makes_rule?, body_of, head_of};
 
 use crate::{Atom, Term, first};
+use std::array;
 
 /// The parts of a rule before anything is checked: the first `bodies` and the first `heads` atoms count.
 #[derive(Clone, Copy)]
@@ -40,7 +41,7 @@ impl RuleParts {
 
     /// Whether the variable stands in the body.
     pub(crate) fn is_in_body(&self, v: u16) -> bool
-        ensures { result ≡ some (has? v) (implication_of self.now).body }
+        ensures { result ≡ universal? (implication_of self.now) v }
     {
         have(self.body(), v)
     }
@@ -50,6 +51,22 @@ impl RuleParts {
         ensures { result ≡ existential? (implication_of self.now) v }
     {
         have(self.head(), v) && !self.is_in_body(v)
+    }
+
+    /// The flags of the universal variables.
+    pub(crate) fn flag_universal(&self) -> [bool; 12]
+        requires { makes_rule? self.now ≡ true }
+        ensures { FlagsAre result (universal? (implication_of self.now)) }
+    {
+        array::from_fn(|v| self.is_in_body(v as u16))
+    }
+
+    /// The flags of the existential variables.
+    pub(crate) fn flag_existential(&self) -> [bool; 12]
+        requires { makes_rule? self.now ≡ true }
+        ensures { FlagsAre result (existential? (implication_of self.now)) }
+    {
+        array::from_fn(|v| self.is_only_in_head(v as u16))
     }
 
     fn count_existentials(&self) -> usize

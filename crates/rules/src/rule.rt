@@ -1,5 +1,6 @@
 ghost use Rattle.std.specs.Prelude.{◌≡◌, true};
-ghost use Rattle.rules.specs.Bounds.{makes_rule?};
+ghost use Rattle.rules.specs.Logic.{implication_of};
+ghost use Rattle.rules.specs.Bounds.{makes_rule?, universal?, existential?, FlagsAre};
 
 use crate::RuleParts;
 
@@ -8,5 +9,10 @@ use crate::RuleParts;
 #[derive(Clone, Copy)]
 pub struct Rule {
     pub(crate) parts: RuleParts,
+    // Which variables are universal, and which existential: told once, since every judgment asks it.
+    pub(crate) universal: [bool; 12],
+    pub(crate) existential: [bool; 12],
     ghost kept: { makes_rule? parts ≡ true },
+    ghost in_body: { FlagsAre universal (universal? (implication_of parts)) },
+    ghost only_in_head: { FlagsAre existential (existential? (implication_of parts)) },
 }

@@ -9,4 +9,4 @@ search-requires g c =
 pub returns : goal.returns
 returns g c =
     let q = c.args.asked.now in
-    answered g.R.Relation.KIND q.first.now q.second.now q.rigid q.flags c.search.result c.start_slots.result c.start_slots.ensures c.search.ensures
+    answered g.R.Relation.KIND q.first.now q.second.now q.rigid q.flags c.search.result c.start_slots.result c.args.sheet.now c.search.new.sheet c.start_slots.ensures c.search.ensures

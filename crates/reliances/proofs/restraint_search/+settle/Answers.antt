@@ -1,6 +1,7 @@
-use Rattle.std.proofs.Common.{◌≡◌, ◌+◌, ◌<◌, [], map, get_or, take, sym, ap, ◌∙◌, subst, arith}
+use Rattle.std.proofs.Common.{◌≡◌, ◌+◌, ◌<◌, [], map, get_or, take, sym, refl, ap, ◌∙◌, subst, arith}
 use Rattle.std.proofs.lemmas.Bool.Decides.{not_from_Decides}
 use Rattle.std.proofs.lemmas.List.{take_all}
+use Rattle.rules.specs.Bounds.{flags}
 use Rattle.rules.specs.declared.Term.TheVariants.{Constant, Variable, Null}
 use Rattle.rules.specs.Logic.{Each}
 use Rattle.rules.specs.Matches.{Stands, under}
@@ -9,22 +10,23 @@ use Rattle.rules.specs.Rules.{meaning}
 use Rattle.matches.specs.Lists.{look, formulas}
 use Rattle.matches.proofs.Bounded.{bounded}
 use Rattle.reliances.specs.declared.sheet.Kind.TheVariants.{Restraint}
-use Rattle.reliances.specs.Unification.{flags, part, moved, replaced, loose_count, later_of}
+use Rattle.reliances.specs.Unification.{part, moved, replaced, loose_count, later_of}
 use Rattle.reliances.specs.RestraintSearch.{IsChoice}
 use Rattle.reliances.specs.Searching.{OnWay, Deserted}
 use Rattle.reliances.proofs.Unify.{is_flexible}
 use Rattle.reliances.proofs.Nodes.{each_taken}
 use Rattle.reliances.proofs.Laying.{laid_one}
 use Rattle.reliances.proofs.RestraintNodes.{laid_later_lem, given_is}
+use Rattle.reliances.proofs.SearchSteps.{said_no}
 use Rattle.reliances.proofs.RestraintEnd.{Refuted, none_open, found_shows, falls, moved_node, all_refuted, no_choice}
-use Rattle.reliances.proofs.restraint_search.+settle.Goals.{then-is_choice+in_default-settle, else-is_choice}
+use Rattle.reliances.proofs.restraint_search.+settle.Goals.{then-is_choice+else-settle, else-is_choice}
 use Rattle.reliances.proofs.restraint_search.+settle.Goals as goal
 
 pub returns-then-not-is_open : goal.returns-then-not-is_open
 returns-then-not-is_open t c =
     let q = c.args.asked.now in
     let way = c.args.way.now in
-    none_open q.first.now q.second.now q.rigid q.flags way.sigma.now way.old.now [] c.requires.node (not_from_Decides c.is_open.result c.is_open.ensures c.if-not-is_open.true)
+    (none_open q.first.now q.second.now q.rigid q.flags way.sigma.now way.old.now [] c.requires.node (not_from_Decides c.is_open.result c.is_open.ensures c.if-not-is_open.true), refl)
 
 pub returns-in_default : goal.returns-in_default
 returns-in_default t c =
@@ -43,7 +45,7 @@ returns-in_default t c =
     c.found_sheet.ensures
 
 pub loop-i-init : goal.loop-i-init
-loop-i-init t c = λ x i. absurd i
+loop-i-init t c = (refl, λ x i. absurd i)
 
 pub overflow_add-early : goal.overflow_add-early
 overflow_add-early t c =
@@ -93,16 +95,22 @@ loop-i-preserved t c =
     let v = c.in-Some.early.spared in
     let F = formulas c.push_each.new.into.items in
     let long = c.requires.node.reached.long in
-    each_taken (Refuted A B q.rigid σ old v F) σ i (Constant 0) (omega (arith, long, c.loop-i-test.true)) c.loop-i.invariant
-    (elim c.if-is_choice.branch [
-      | then-is_choice+in_default-settle w ↦ λ r e flex stand.
-          subst (λ z. Deserted Restraint A B q.rigid z old) (w.replace.ensures ∙ ap (λ s. map (replaced s (Null (12 + v))) σ) e) w.in_default-settle.ensures
-      | else-is_choice w ↦
-          no_choice A B q.rigid q.flags σ old v i F (get_or σ i (Constant 0))
-          (subst (λ z. IsChoice q.rigid (take i σ) (formulas z) (get_or σ i (Constant 0)) → ⊥) c.deref-in-loop-i.ensures.0
-          (not_from_Decides c.is_choice.result c.is_choice.ensures w.if-is_choice.false))
-          c.loop-i.invariant
-    ])
+    let more = each_taken (Refuted A B q.rigid σ old v F) σ i (Constant 0) (omega (arith, long, c.loop-i-test.true)) c.loop-i.invariant.1 in
+    elim c.if-is_choice.branch [
+      | then-is_choice+else-settle w ↦
+          let left = said_no Restraint A B q.rigid w.replace.new.sigma old c.loop-i.sheet w.settle.new.sheet w.settle.result w.if-settle.false w.settle.ensures in (
+            w.sheet-is ∙ left.1 ∙ c.loop-i.invariant.0,
+            more (λ r e flex stand. subst (λ z. Deserted Restraint A B q.rigid z old) (w.replace.ensures ∙ ap (λ s. map (replaced s (Null (12 + v))) σ) e) left.0),
+          )
+      | else-is_choice w ↦ (
+        w.sheet-is ∙ c.loop-i.invariant.0,
+        more
+        (no_choice A B q.rigid q.flags σ old v i F (get_or σ i (Constant 0))
+        (subst (λ z. IsChoice q.rigid (take i σ) (formulas z) (get_or σ i (Constant 0)) → ⊥) c.deref-in-loop-i.ensures.0
+        (not_from_Decides c.is_choice.result c.is_choice.ensures w.if-is_choice.false))
+        c.loop-i.invariant.1),
+      )
+    ]
 
 pub returns : goal.returns
 returns t c =
@@ -116,8 +124,10 @@ returns t c =
     let v = c.in-Some.early.spared in
     let values = c.in-Some.early.values in
     let given = c.push_each.new.into.items in
-    let long = c.requires.node.reached.long in
-    all_refuted A B q.rigid q.flags σ old c.second_slots.result.now S v values c.requires.node c.second_slots.ensures d c.in-Some.ensures
-    (formulas given)
-    (given_is B (look values) c.head.result.now given c.head.ensures.same (laid_one _ given _ c.head.result.now c.new-given.ensures c.push_each.ensures))
-    (subst (Each (Refuted A B q.rigid σ old v (formulas given))) (take_all c.loop-i.i σ (omega (arith, long, c.loop-i-test.false))) c.loop-i.invariant)
+    let long = c.requires.node.reached.long in (
+      all_refuted A B q.rigid q.flags σ old c.second_slots.result.now S v values c.requires.node c.second_slots.ensures d c.in-Some.ensures
+      (formulas given)
+      (given_is B (look values) c.head.result.now given c.head.ensures.same (laid_one _ given _ c.head.result.now c.new-given.ensures c.push_each.ensures))
+      (subst (Each (Refuted A B q.rigid σ old v (formulas given))) (take_all c.loop-i.i σ (omega (arith, long, c.loop-i-test.false))) c.loop-i.invariant.1),
+      c.loop-i.invariant.0,
+    )

@@ -3,7 +3,7 @@ use Rattle.rules.specs.declared.Term.TheVariants.{Constant, Variable}
 use Rattle.rules.specs.Matches.{value}
 use Rattle.reliances.specs.Unification.{through}
 use Rattle.reliances.specs.RestraintSearch.{shift_by}
-use Rattle.reliances.proofs.Mapping.{made}
+use Rattle.rules.proofs.Mapping.{made}
 use Rattle.reliances.proofs.restraint_search.other_values.Goals as goal
 
 pub returns : goal.returns

@@ -1,7 +1,7 @@
 use Rattle.std.proofs.Common.{rules, tests}
 use Rattle.rules.specs.declared.Term.TheVariants.{Constant}
 use Rattle.reliances.specs.RestraintSearch.{shift_by}
-use Rattle.reliances.proofs.Mapping.{mapped}
+use Rattle.rules.proofs.Mapping.{mapped}
 use Rattle.reliances.proofs.restraint_search.shift_terms.Goals as goal
 
 pub returns : goal.returns

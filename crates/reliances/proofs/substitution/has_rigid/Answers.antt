@@ -2,11 +2,12 @@ use Rattle.std.proofs.Common.{rules, sym, ◌∙◌}
 use Rattle.std.proofs.lemmas.Bool.Decides.{Decides-at}
 use Rattle.std.proofs.lemmas.Iterator.{YieldsList-from_slice}
 use Rattle.std.proofs.lemmas.Iterator.Search.{any_from_yields_List}
+use Rattle.rules.specs.Bounds.{flags}
 use borrow.Author.Tests.{tests}
 use Rattle.rules.specs.Logic.{Formula, formula_of}
 use Rattle.rules.proofs.Mapped.{some_map}
 use Rattle.matches.specs.Lists.{formulas}
-use Rattle.reliances.specs.Unification.{flags, any_rigid?}
+use Rattle.reliances.specs.Unification.{any_rigid?}
 use Rattle.reliances.proofs.Rigid.{decides_has_rigid}
 use Rattle.reliances.proofs.substitution.has_rigid.Goals as goal
 

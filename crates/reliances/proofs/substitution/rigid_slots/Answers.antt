@@ -3,7 +3,7 @@ use Rattle.std.proofs.lemmas.Bool.{cases_lt}
 use Rattle.std.proofs.lemmas.List.{get_or_past}
 use Rattle.rules.specs.Rules.{meaning}
 use Rattle.reliances.specs.Searching.{rigid_for}
-use Rattle.reliances.proofs.Mapping.{made}
+use Rattle.rules.proofs.Mapping.{made}
 use Rattle.reliances.proofs.Rigid.{keeps_past}
 use Rattle.reliances.proofs.substitution.rigid_slots.Goals as goal
 

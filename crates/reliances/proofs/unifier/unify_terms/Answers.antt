@@ -1,8 +1,9 @@
 use Rattle.std.proofs.Common.{◌≡◌, ℕ, suc, Bool, List, [], ◌∷◌, length, Option, Some, None, sym, refl, ap}
 use Rattle.std.specs.Option.{option_and_then}
+use Rattle.rules.specs.Bounds.{flags}
 use Rattle.rules.specs.declared.Term.{Term}
 use Rattle.rules.specs.Matches.{value}
-use Rattle.reliances.specs.Unification.{Subst, through, flags, unify, unify_all}
+use Rattle.reliances.specs.Unification.{Subst, through, unify, unify_all}
 use Rattle.reliances.proofs.unifier.unify_terms.Goals as goal
 
 and_then_none : {A B : Type 0} (f : A → Option B) (o : Option A) → ((x : A) → f x ≡ None) → option_and_then f o ≡ None

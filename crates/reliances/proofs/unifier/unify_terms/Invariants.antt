@@ -1,5 +1,6 @@
 use Rattle.std.proofs.Common.{◌≡◌, length, drop}
-use Rattle.reliances.specs.Unification.{unify_all, flags}
+use Rattle.rules.specs.Bounds.{flags}
+use Rattle.reliances.specs.Unification.{unify_all}
 use Rattle.reliances.proofs.unifier.unify_terms.Given as goal
 
 abbrev pub invariant-loop-s : goal.invariant-loop-s

@@ -4,9 +4,9 @@ use Rattle.rules.specs.Bounds.{makes_rule?}
 use Rattle.rules.proofs.Bounded.{makes_rule_decided}
 use Rattle.rules.proofs.rule.Rule.new.Goals as goal
 
-pub returns-then-make_rule : goal.returns-then-make_rule
-returns-then-make_rule c = (refl, (makes_rule_decided c.args.parts).0 (sym c.make_rule.ensures ∙ c.if-make_rule.true))
+pub returns-then-not-make_rule : goal.returns-then-not-make_rule
+returns-then-not-make_rule c m =
+    both_ways (makes_rule? c.args.parts) (sym c.make_rule.ensures ∙ c.if-not-make_rule.true) ((makes_rule_decided c.args.parts).1 m)
 
-pub returns-else-make_rule : goal.returns-else-make_rule
-returns-else-make_rule c m =
-    both_ways (makes_rule? c.args.parts) (sym c.make_rule.ensures ∙ c.if-make_rule.false) ((makes_rule_decided c.args.parts).1 m)
+pub returns : goal.returns
+returns c = (refl, (makes_rule_decided c.args.parts).0 (sym c.make_rule.ensures ∙ c.if-not-make_rule.false))

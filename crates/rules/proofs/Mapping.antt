@@ -1,10 +1,11 @@
 -- What arrays made by calls of a closure hold, where each call gives what h says.
 -- Assumes nothing.
-use Rattle.std.proofs.Common.{◌≡◌, ℕ, zero, suc, ◌+◌, ◌<◌, ◌≤◌, ◌≢◌, List, map, length, get_or, sym, ap, ◌∙◌, subst, ⊎_elim, arith}
-use Rattle.std.proofs.lemmas.Bool.{cases_eq}
-use Rattle.std.proofs.lemmas.List.{same_lists, length-map, get_or-map}
+use Rattle.std.proofs.Common.{◌≡◌, ℕ, zero, suc, ◌+◌, ◌<◌, ◌≤◌, ◌≢◌, Bool, false, List, map, length, get_or, sym, ap, ◌∙◌, subst, ⊎_elim, arith}
+use Rattle.std.proofs.lemmas.Bool.{cases_eq, cases_lt}
+use Rattle.std.proofs.lemmas.List.{same_lists, length-map, get_or-map, get_or_past}
 use Rattle.std.specs.Fn.{Mut, Called}
 use Rattle.std.specs.Array.{MapsFrom, IsMapOf, IsFromFnResultFrom, IsFromFnResult}
+use Rattle.rules.specs.Bounds.{FlagsAre}
 
 module _ {F A B : Type 0} (g : Mut F (A × Unit {0}) B) (f : F) (h : A → B) (calls : (x : A) (y : B) (q : F) → Called g f (x, tt) y q → (q ≡ f) × (y ≡ h x)) (xs : List A) (ys : List B) where
   mapped_from : (i n : ℕ) → MapsFrom g f xs ys i n → (k : ℕ) → i ≤ k → k < i + n → (d : A) (e : B) → get_or ys k e ≡ h (get_or xs k d)
@@ -35,3 +36,9 @@ module _ {F B : Type 0} (g : Mut F (ℕ × Unit {0}) B) (f : F) (h : ℕ → B) 
   -- `from_fn`
   pub made : (n : ℕ) → IsFromFnResult g f ys n → (k : ℕ) → k < n → (e : B) → get_or ys k e ≡ h k
   made n m k l e = made_from 0 n m.each k (omega arith) (omega arith) e
+
+-- flags made by `from_fn`, where the test says no past them
+module _ {F : Type 0} (g : Mut F (ℕ × Unit {0}) Bool) (f : F) (test : ℕ → Bool) (calls : (k : ℕ) (y : Bool) (q : F) → Called g f (k, tt) y q → (q ≡ f) × (y ≡ test k)) (ys : List Bool) where
+  pub flagged : (n : ℕ) → IsFromFnResult g f ys n → ((k : ℕ) → n ≤ k → test k ≡ false) → FlagsAre ys test
+  flagged n m past k =
+      ⊎_elim (λ l. made g f test calls ys n m k l false) (λ l. get_or_past ys k false (let a = m.long in omega arith) ∙ sym (past k l)) (cases_lt k n)
