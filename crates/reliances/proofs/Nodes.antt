@@ -1,7 +1,8 @@
 -- From node to node of either search as the code goes: the first of the atoms that remain is left old, or is new.
 -- Assumes nothing.
-use Rattle.std.proofs.Common.{◌≡◌, ℕ, zero, suc, ◌+◌, ◌<◌, ◌≤◌, Bool, true, false, ◌≢◌, List, [], ◌∷◌, ◌++◌, map, length, get_or, take, sym, refl, ◌∙◌, subst, inl, inr, ⊎_elim, arith, Some}
-use Rattle.std.proofs.lemmas.List.{map-append, length-append, take_more, get_or_past}
+use Rattle.std.proofs.Common.{◌≡◌, ℕ, zero, suc, ◌+◌, ◌<◌, ◌≤◌, Bool, true, false, ◌≢◌, List, [], ◌∷◌, ◌++◌, map, length, get_or, take, drop, sym, refl, ◌∙◌, subst, inl, inr, ⊎_elim, arith, Some, ap, ◌-◌}
+use Rattle.std.proofs.Math.Seq.{take-length}
+use Rattle.std.proofs.lemmas.List.{length-drop, map-append, length-map, length-append, take_more, get_or_past}
 use Rattle.std.proofs.lemmas.Bool.{cases_eq, cases_lt, false≢true}
 use Rattle.rules.specs.declared.Term.TheVariants.{Null}
 use Rattle.rules.specs.declared.Atom.{Atom}
@@ -9,10 +10,10 @@ use Rattle.rules.specs.declared.rule.Rule.{Rule}
 use Rattle.rules.specs.Logic.{In, Each, Formula, formula_of}
 use Rattle.rules.specs.Bounds.{body_of, head_of, MakesRule, flags}
 use Rattle.rules.specs.Matches.{Assignment}
-use Rattle.rules.proofs.Membership.{in_left, in_right}
+use Rattle.rules.proofs.Membership.{in_left, in_right, in_either}
 use Rattle.rules.proofs.Bounded.{makes_rule_decided}
 use Rattle.matches.specs.Lists.{look, formulas, under_atom}
-use Rattle.matches.proofs.Basics.{from_map}
+use Rattle.matches.proofs.Basics.{in_map, from_map}
 use Rattle.reliances.specs.Unification.{Subst, start, unify_formulas}
 use Rattle.reliances.specs.Following.{Reached, Left, Small, Node}
 use Rattle.reliances.proofs.Unify.{Slotted}
@@ -54,6 +55,37 @@ left_old bs old b rest l = record {
 pub left_new : (bs old : List Formula) (b : Formula) (rest : List Formula) → Left bs old (b ∷ rest) → Left bs old rest
 left_new bs old b rest l = record { few = (let f = l.few in omega arith); all = λ e. absurd (let f = l.few in omega arith) }
 
+-- an element of a list, and the others
+taken_is : {X : Type 0} (xs : List X) (i : ℕ) (d : X) → i < length xs → take i xs ++ (get_or xs i d ∷ drop (i + 1) xs) ≡ xs
+taken_is [] i d l = absurd (omega arith)
+taken_is (x ∷ xs) zero d l = refl
+taken_is (x ∷ xs) (suc i) d l =
+    ap (λ n. x ∷ (take i xs ++ (get_or xs i d ∷ drop n (x ∷ xs)))) (let e : suc i + 1 ≡ suc (i + 1) = omega arith in e)
+    ∙ ap (λ z. x ∷ z) (taken_is xs i d (omega arith))
+
+pub drop_whole : {X : Type 0} (xs : List X) (n : ℕ) → take (length xs - n) (drop n xs) ≡ drop n xs
+drop_whole xs n = ap (λ k. take k (drop n xs)) (sym (length-drop n xs)) ∙ take-length (drop n xs)
+
+pub taken_length : {X : Type 0} (xs : List X) (i : ℕ) (d : X) → i < length xs → suc (length (take i xs ++ drop (i + 1) xs)) ≡ length xs
+taken_length xs i d l =
+    let p = length-append (take i xs) (drop (i + 1) xs) in
+    let q = length-append (take i xs) (get_or xs i d ∷ drop (i + 1) xs) in
+    let r = ap length (taken_is xs i d l) in
+    omega arith
+
+taken_of : {X : Type 0} (x : X) (xs : List X) (i : ℕ) (d : X) → i < length xs → In x (get_or xs i d ∷ (take i xs ++ drop (i + 1) xs)) → In x xs
+taken_of x xs i d l j =
+    subst (In x) (taken_is xs i d l)
+    (⊎_elim (λ e. in_right x (take i xs) (get_or xs i d ∷ drop (i + 1) xs) (inl e))
+    (λ k. ⊎_elim (in_left x (take i xs) (get_or xs i d ∷ drop (i + 1) xs)) (λ m. in_right x (take i xs) (get_or xs i d ∷ drop (i + 1) xs) (inr m)) (in_either x (take i xs) (drop (i + 1) xs) k))
+    j)
+
+in_taken : {X : Type 0} (x : X) (xs : List X) (i : ℕ) (d : X) → i < length xs → In x xs → In x (get_or xs i d ∷ (take i xs ++ drop (i + 1) xs))
+in_taken x xs i d l j =
+    ⊎_elim (λ k. inr (in_left x (take i xs) (drop (i + 1) xs) k))
+    (λ k. ⊎_elim (λ e. inl e) (λ m. inr (in_right x (take i xs) (drop (i + 1) xs) m)) k)
+    (in_either x (take i xs) (get_or xs i d ∷ drop (i + 1) xs) (subst (In x) (sym (taken_is xs i d l)) j))
+
 -- what stands for an element past the end
 abbrev pub no_atom : Atom
 no_atom = record { predicate = 0; arity = 0; terms = [] }
@@ -86,6 +118,63 @@ module _ (heads all : List Formula) (slots_heads : Each (λ a. Each Slotted a.te
     small_old = λ x i. absurd i;
     small_rest = small;
   }
+
+  -- the same atoms remain, in another order
+  pub node_same : (σ : Subst) (old rest more : List Atom) → length more ≡ length rest → Each (λ x. In x rest) more → Each (λ x. In x more) rest
+      → NodeHere σ old rest → NodeHere σ old more
+  node_same σ old rest more long to from n = record {
+    reached = record {
+      long = n.reached.long;
+      ground = n.reached.ground;
+      keeps = n.reached.keeps;
+      old_from = n.reached.old_from;
+      rest_from = λ x i. n.reached.rest_from x (meant more rest to x i);
+      covers = λ b i. ⊎_elim (λ j. inl (meant rest more from b j)) (λ j. inr j) (n.reached.covers b i);
+    };
+    left = record {
+      few = (let few = n.left.few in let p = length-map more formula_of in let q = length-map rest formula_of in omega arith);
+      all = λ e b i. ⊎_elim (λ j. inl (meant rest more from b j)) (λ j. inr j)
+          (n.left.all (let p = length-map more formula_of in let q = length-map rest formula_of in omega arith) b i);
+    };
+    small_old = n.small_old;
+    small_rest = λ x i. n.small_rest x (to x i);
+  }
+    where
+      meant : (xs ys : List Atom) → Each (λ x. In x ys) xs → (b : Formula) → In b (formulas xs) → In b (formulas ys)
+      meant xs ys f b i = let r = from_map formula_of b xs i in subst (λ z. In z (formulas ys)) (sym r.2) (in_map formula_of r.0 ys (f r.0 r.1))
+
+  -- one of the atoms that remain is the first
+  pub node_taken : (σ : Subst) (old rest : List Atom) (i : ℕ) → i < length rest → NodeHere σ old rest → NodeHere σ old (get_or rest i no_atom ∷ (take i rest ++ drop (i + 1) rest))
+  node_taken σ old rest i l n =
+      node_same σ old rest (get_or rest i no_atom ∷ (take i rest ++ drop (i + 1) rest)) (taken_length rest i no_atom l)
+      (λ x j. taken_of x rest i no_atom l j) (λ x j. in_taken x rest i no_atom l j) n
+
+  -- all that remains is left old
+  pub node_all : (σ : Subst) (old rest : List Atom) → NodeHere σ old rest → NodeHere σ (old ++ rest) []
+  node_all σ old rest n = record {
+    reached = record {
+      long = n.reached.long;
+      ground = n.reached.ground;
+      keeps = n.reached.keeps;
+      old_from = λ x i. ⊎_elim (n.reached.old_from x) (n.reached.rest_from x) (in_either x (formulas old) (formulas rest) (subst (In x) both i));
+      rest_from = λ x i. absurd i;
+      covers = λ b i. inr (⊎_elim (λ j. inl (subst (In b) (sym both) (in_right b (formulas old) (formulas rest) j)))
+          (λ j. ⊎_elim (λ k. inl (subst (In b) (sym both) (in_left b (formulas old) (formulas rest) k))) (λ k. inr k) j) (n.reached.covers b i));
+    };
+    left = record {
+      few = (let few = n.left.few in let l = longer in omega arith);
+      all = λ e b i. inr (subst (In b) (sym both) (⊎_elim (in_right b (formulas old) (formulas rest)) (in_left b (formulas old) (formulas rest))
+          (n.left.all (let l = longer in omega arith) b i)));
+    };
+    small_old = λ x i. ⊎_elim (n.small_old x) (n.small_rest x) (in_either x old rest i);
+    small_rest = λ x i. absurd i;
+  }
+    where
+      both : formulas (old ++ rest) ≡ formulas old ++ formulas rest
+      both = map-append formula_of old rest
+
+      longer : length (formulas (old ++ rest)) ≡ length (formulas old) + length (formulas rest)
+      longer = ap length both ∙ length-append (formulas old) (formulas rest)
 
   pub node_old : (σ : Subst) (old : List Atom) (b : Atom) (rest : List Atom) → NodeHere σ old (b ∷ rest) → NodeHere σ (old ++ (b ∷ [])) rest
   node_old σ old b rest n = record {

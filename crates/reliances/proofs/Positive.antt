@@ -6,7 +6,7 @@ use Rattle.std.proofs.lemmas.Bool.{cond-true, cond-false, lt-ltb, le-ltb}
 use Rattle.rules.specs.declared.Term.{Term}
 use Rattle.rules.specs.declared.Term.TheVariants.{Variable, Null}
 use Rattle.rules.specs.Logic.{In, Each, Formula, Implication, Existential}
-use Rattle.rules.specs.Matches.{Assignment, under, IsNull, Stands, Match, result}
+use Rattle.rules.specs.Matches.{Assignment, under, IsNull, Stands, Match, result, Satisfied}
 use Rattle.rules.specs.Reliances.{ShowsReliance, PositiveReliance}
 use Rattle.rules.proofs.Membership.{in_left, in_right, in_either}
 use Rattle.matches.specs.Lists.{look, Sizes}
@@ -147,23 +147,35 @@ module _ (A B : Implication) (ba : Bounded A) (bb : Bounded B) (rigid : ℕ → 
         (into_map θ h_a f A.body F (λ a i. first_lift a (body_a a i)) w.shows.first.unsatisfied.matches)
         (into_map θ h_b s old F (λ b i. second_lift b (body_b b (from b i))) w.actual)
 
-    into_result : Each (λ o. In o B.body) old → Into θ (result A h_a C) (result A f F)
-    into_result from =
-        into_both θ C (map (under h_a) A.head) (result A f F)
-        (into_more θ C F (result A f F) (into from) (λ x i. in_left x F (map (under f) A.head) i))
-        (into_map θ h_a f A.head (result A f F) (λ a i. first_lift a (head_a a i))
-        (λ a i. in_right (under f a) F (map (under f) A.head) (in_map (under f) a A.head i)))
+    abbrev G : List Formula
+    G = result A f F
+
+    -- all of B's body atoms are in G, be they old or new
+    into_result : (bs : List Formula) → Each (λ o. In o B.body) bs → Into θ (result A h_a (candidate A σ bs)) G
+    into_result bs from =
+        into_both θ (candidate A σ bs) (map (under h_a) A.head) G
+        (into_both θ (map (under h_a) A.body) (map (under h_b) bs) G
+        (into_more θ (map (under h_a) A.body) F G (into_map θ h_a f A.body F (λ a i. first_lift a (body_a a i)) w.shows.first.unsatisfied.matches)
+        (λ x i. in_left x F (map (under f) A.head) i))
+        (into_map θ h_b s bs G (λ b i. second_lift b (body_b b (from b i))) (λ b i. w.shows.second.matches b (from b i))))
+        (into_map θ h_a f A.head G (λ a i. first_lift a (head_a a i)) (λ a i. in_right (under f a) F (map (under f) A.head) (in_map (under f) a A.head i)))
+
+    unsatisfied_at : (bs : List Formula) → Each (λ o. In o B.body) bs → Satisfied B h_b (result A h_a (candidate A σ bs)) → ⊥
+    unsatisfied_at bs from z =
+        w.shows.second.missing
+        (satisfied_lifts θ (result A h_a (candidate A σ bs)) G (into_result bs from) B h_b s head_b (λ v u. respect_second v (bb.body (Variable v) u)) z)
 
     open_at : Each (λ o. In o B.body) old → Open A B rigid σ old
     open_at from = record {
-      spare = λ r e i.
-          let x = rigid_is r e in
-          w.shows.first.fresh.new r x (subst (λ t. Stands t F) (both_first f s r (small r x)) (stands_lifts θ C F (into from) (Null r) i));
-      first = λ z. w.shows.first.unsatisfied.missing
-          (satisfied_lifts θ C F (into from) A h_a f head_a (λ v u. respect_first v (ba.body (Variable v) u)) z);
-      second = λ z. w.shows.second.missing
-          (satisfied_lifts θ (result A h_a C) (result A f F) (into_result from) B h_b s head_b (λ v u. respect_second v (bb.body (Variable v) u)) z);
-      new = λ z. w.shows.new (match_lifts θ C F (into from) B h_b s (λ b i. second_lift b (body_b b i)) z);
+      free = record {
+        spare = λ r e i.
+            let x = rigid_is r e in
+            w.shows.first.fresh.new r x (subst (λ t. Stands t F) (both_first f s r (small r x)) (stands_lifts θ C F (into from) (Null r) i));
+        first = λ z. w.shows.first.unsatisfied.missing
+            (satisfied_lifts θ C F (into from) A h_a f head_a (λ v u. respect_first v (ba.body (Variable v) u)) z);
+        new = λ z. w.shows.new (match_lifts θ C F (into from) B h_b s (λ b i. second_lift b (body_b b i)) z);
+      };
+      second = unsatisfied_at old from;
     }
 
   -- an atom of B's body is old, or unified with an atom of A's head
@@ -173,6 +185,11 @@ module _ (A B : Implication) (ba : Bounded A) (bb : Bounded B) (rigid : ℕ → 
 
   pub follow_open : (σ : Subst) (old : List Formula) → Each (λ o. In o B.body) old → Followed A B rigid σ old → Open A B rigid σ old
   follow_open σ old from w = open_at σ old w from
+
+  -- B's match is unsatisfied on the result, where any of its body atoms are taken for old
+  pub follow_unsatisfied : (σ : Subst) (old bs : List Formula) → Each (λ o. In o B.body) bs → Followed A B rigid σ old
+      → Satisfied B (look (part σ 12)) (result A (look (part σ 0)) (candidate A σ bs)) → ⊥
+  follow_unsatisfied σ old bs from w = unsatisfied_at σ old w bs from
 
   abbrev ReachedHere : Subst → List Formula → List Formula → Type 0
   ReachedHere = Reached A.head B.body rigid
@@ -197,16 +214,16 @@ module _ (A B : Implication) (ba : Bounded A) (bb : Bounded B) (rigid : ℕ → 
     first = record {
       unsatisfied = record {
         matches = λ a i. in_left (under h_a a) (map (under h_a) A.body) (map (under h_b) old) (in_map (under h_a) a A.body i);
-        missing = o.first;
+        missing = o.free.first;
       };
       fresh = record {
         nulls = λ v x. subst IsNull (sym (kept v x)) tt;
-        new = λ v x i. o.spare v (is_kept v x) (subst (λ t. Stands t C) (kept v x) i);
+        new = λ v x i. o.free.spare v (is_kept v x) (subst (λ t. Stands t C) (kept v x) i);
         apart = λ v u x y e. cc (kept v x, kept u y);
       };
     };
     second = record { matches = second_covered; missing = o.second };
-    new = o.new;
+    new = o.free.new;
   }
     where
       h_a : Assignment

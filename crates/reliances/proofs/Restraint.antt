@@ -53,7 +53,7 @@ or_false : (b c : Bool) → (b || c) ≡ false → (b ≡ false) × (c ≡ false
 or_false true c e = absurd (false≢true (sym e))
 or_false false c e = (refl, e)
 
-none_passes : {X : Type 0} (p : X → Bool) (xs : List X) → some p xs ≡ false → (x : X) → In x xs → p x ≡ false
+pub none_passes : {X : Type 0} (p : X → Bool) (xs : List X) → some p xs ≡ false → (x : X) → In x xs → p x ≡ false
 none_passes p [] e x i = absurd i
 none_passes p (y ∷ ys) e x (inl q) = ap p q ∙ (or_false (p y) (some p ys) e).0
 none_passes p (y ∷ ys) e x (inr i) = none_passes p ys (or_false (p y) (some p ys) e).1 x i

@@ -1,17 +1,17 @@
 -- The end of a way of the search for a restraint: what it shows, and how alternatives that come too early are refined away.
 -- Assumes nothing.
-use Rattle.std.proofs.Common.{◌≡◌, ℕ, ◌+◌, ◌<◌, ◌≤◌, Bool, false, List, [], ◌++◌, map, length, take, sym, refl, ap, ◌∙◌, subst, ⊎_elim, arith}
+use Rattle.std.proofs.Common.{◌≡◌, ℕ, ◌+◌, ◌<◌, ◌≤◌, Bool, false, not, List, [], ◌++◌, map, length, take, sym, refl, ap, ◌∙◌, subst, ⊎_elim, arith}
 use Rattle.std.proofs.lemmas.List.{length-map}
 use Rattle.rules.specs.declared.Term.{Term}
 use Rattle.rules.specs.declared.Term.TheVariants.{Variable, Null}
 use Rattle.rules.specs.declared.Atom.{Atom}
 use Rattle.rules.specs.declared.rule.Rule.{Rule}
 use Rattle.rules.specs.Logic.{In, Each, Formula, Implication, formula_of}
-use Rattle.rules.specs.Bounds.{body_of, head_of, flags, FlagsAre}
+use Rattle.rules.specs.Bounds.{some, body_of, head_of, flags, FlagsAre}
 use Rattle.rules.specs.Matches.{Ground, Assignment, Stands, value, under, result}
 use Rattle.rules.specs.Reliances.{Alternative, ShowsRestraint}
 use Rattle.rules.specs.Rules.{meaning}
-use Rattle.std.proofs.lemmas.Bool.{not_from_false}
+use Rattle.std.proofs.lemmas.Bool.{not_from_false, both_ways}
 use Rattle.rules.proofs.Membership.{in_right, in_either}
 use Rattle.matches.specs.Lists.{look, formulas, under_atom, Spares, Sizes}
 use Rattle.matches.specs.Matching.{stands}
@@ -19,10 +19,10 @@ use Rattle.matches.proofs.Basics.{in_map, from_map, in_terms, from_terms, under_
 use Rattle.matches.proofs.Bounded.{Bounded, bounded, by_formula}
 use Rattle.reliances.specs.declared.sheet.Kind.TheVariants.{Restraint}
 use Rattle.reliances.specs.declared.sheet.Sheet.{Sheet}
-use Rattle.reliances.specs.Unification.{Subst, through, flexible, rigid_both, part, wide, shift_var, other, moved, loose_count, before_of, later_of}
+use Rattle.reliances.specs.Unification.{Subst, through, flexible, some_flexible?, rigid_both, part, wide, shift_var, other, moved, loose_count, before_of, later_of}
 use Rattle.reliances.specs.Following.{Small, Node}
 use Rattle.reliances.specs.Sheets.{first_list, second_list, later_facts, ShowsRestrained}
-use Rattle.reliances.specs.RestraintSearch.{shifted, IsChoice, Open, IsFound}
+use Rattle.reliances.specs.RestraintSearch.{shifted, Stuck, IsChoice, Open, IsFound}
 use Rattle.reliances.specs.Searching.{Deserted}
 use Rattle.reliances.proofs.Slots.{look_ground, look_wide}
 use Rattle.reliances.proofs.Nodes.{small_body, under_small}
@@ -50,6 +50,12 @@ stands_present r k S present t i =
     let q = from_map (under k) p.0 r.head p.1 in
     in_terms t p.0 S (subst (λ x. In x S) (sym q.2) (present q.0 q.1)) p.2
 
+-- where no flexible null stands in the formulas
+pub none_loose : (rigid : ℕ → Bool) (F : List Formula) → some_flexible? rigid F ≡ false → (r : ℕ) → rigid r ≡ false → Stands (Null r) F → ⊥
+none_loose rigid F e r flex i =
+    let p = from_terms (Null r) F i in
+    both_ways (not (rigid r)) (restraint.none_passes (flexible rigid) p.0.terms (restraint.none_passes (λ a. some (flexible rigid) a.terms) F e p.0 p.1) (Null r) p.2) (not_from_false (rigid r) flex)
+
 -- the null of a slot cannot be made the one that the early alternative spares
 abbrev pub Refuted : Rule → Rule → List Bool → Subst → List Atom → ℕ → List Formula → Term → Type 0
 Refuted A B rigid σ old v F t = (r : ℕ) → t ≡ Null r → flags rigid r ≡ false → Stands (Null r) F → Deserted Restraint A B rigid (moved r v σ) old
@@ -63,6 +69,18 @@ module _ (A B : Rule) (rigid : List Bool) (is : FlagsAre rigid (rigid_both (mean
 
   pub none_open : (rest : List Atom) → NodeHere σ rest → (OpenHere → ⊥) → Deserted Restraint A B rigid σ old
   none_open rest n shut w = shut (restraint.follow_open (meaning A) (meaning B) (bounded A) (bounded B) (flags rigid) is σ (formulas old) n.reached.old_from w)
+
+  -- an alternative too early that no flexible null can change rules the restraint out
+  pub none_stuck : (rest : List Atom) → NodeHere σ rest → Stuck (meaning B) (flags rigid) (look (part σ 12)) (later_of (meaning A) (meaning B) σ (formulas old)) → Deserted Restraint A B rigid σ old
+  none_stuck rest n s w =
+      let v = s.0 in
+      let k = s.1 in
+      let e = s.2 in
+      let kept : look (part σ 12) v ≡ Null (12 + v) =
+      restraint.reach_null (meaning A) (meaning B) (bounded A) (bounded B) (flags rigid) is σ (formulas old) (formulas rest) n.reached v e.given in
+      let z = restraint.follow_refine (meaning A) (meaning B) (bounded A) (bounded B) (flags rigid) is σ (formulas old) n.reached.old_from w k v e.agrees e.present e.given
+      (λ i. e.absent (subst (λ t. Stands t (map (under k) (meaning B).head)) (sym kept) i)) in
+      s.3 z.0 z.1 z.2
 
   -- where every atom is old, no witness follows
   pub none_new : (count : ℕ) → NodeHere σ [] → count ≡ length (shifted (meaning B)) → count ≤ length old → Deserted Restraint A B rigid σ old

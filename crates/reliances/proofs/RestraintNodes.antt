@@ -3,7 +3,7 @@
 use Rattle.std.proofs.Common.{◌≡◌, ℕ, ◌+◌, ◌-◌, ◌<◌, ◌≤◌, Bool, true, false, ltb, List, [], ◌∷◌, ◌++◌, map, length, get_or, take, Decides, MatchBool, sym, refl, ap, ◌∙◌, subst, ⊎_elim, arith}
 use Rattle.std.proofs.lemmas.Bool.Decides.{Decides-like}
 use Rattle.std.proofs.lemmas.Bool.{cases_lt, lt-ltb, le-ltb}
-use Rattle.std.proofs.lemmas.List.{map-append, length-map, append_assoc, get_or-take, take-map, length-take}
+use Rattle.std.proofs.lemmas.List.{map-append, length-append, length-map, append_assoc, get_or-take, take-map, length-take}
 use Rattle.std.proofs.lemmas.List.FromFn.{get_or-range_with_len}
 use Rattle.std.specs.List.{HoldsAt, AllWithin, range_with_len}
 use Rattle.rules.specs.declared.Term.{Term}
@@ -76,6 +76,29 @@ module _ (A B : Rule) (σ : Subst) (old : List Atom) where
   laid_later_lem =
       map-append formula_of (laid_before B σ ++ map (under_atom (look (part σ 12))) (head_of B.parts)) (laid_extra A σ old)
       ∙ (λ i. (map-append formula_of (laid_before B σ) (map (under_atom (look (part σ 12))) (head_of B.parts)) ∙ (λ j. laid_before_lem j ++ all_under (look (part σ 12)) (head_of B.parts) j)) i ++ laid_extra_lem i)
+
+  -- the part of a list that was laid for those that are old
+  pub later_part : (all rest list : List Atom) → all ≡ old ++ rest → list ≡ laid_later A B σ all → take (length list - length rest) list ≡ laid_later A B σ old
+  later_part all rest list p e =
+      (λ i. take (short i) (whole i)) ∙ take_first (laid_later A B σ old) more
+    where
+      more : List Atom
+      more = map (under_atom (look (wide σ))) rest
+
+      whole : list ≡ laid_later A B σ old ++ more
+      whole =
+          e ∙ ap (laid_later A B σ) p
+          ∙ ap (λ z. (laid_before B σ ++ map (under_atom (look (part σ 12))) (head_of B.parts)) ++ (map (under_atom (look (part σ 0))) (body_of A.parts) ++ z)) (map-append (under_atom (look (wide σ))) old rest)
+          ∙ ap (λ z. (laid_before B σ ++ map (under_atom (look (part σ 12))) (head_of B.parts)) ++ z)
+          (sym (append_assoc (map (under_atom (look (part σ 0))) (body_of A.parts)) (map (under_atom (look (wide σ))) old) more))
+          ∙ sym (append_assoc (laid_before B σ ++ map (under_atom (look (part σ 12))) (head_of B.parts)) (laid_extra A σ old) more)
+
+      short : length list - length rest ≡ length (laid_later A B σ old)
+      short =
+          let a = ap length whole in
+          let b = length-append (laid_later A B σ old) more in
+          let c = length-map rest (under_atom (look (wide σ))) in
+          omega (arith, a, b, c)
 
   module _ (list body : List Atom) (laid : list ≡ laid_later A B σ old) (p : body ≡ body_of B.parts) where
     before-length : length (laid_before B σ) ≡ length body

@@ -1,14 +1,14 @@
 -- From node to node of either search, by its kind, and what is known after all heads were tried.
 -- Assumes nothing.
-use Rattle.std.proofs.Common.{◌≡◌, ℕ, suc, cond, ◌<◌, ◌≤◌, Bool, true, false, Decides, ◌⊎◌, List, [], ◌∷◌, ◌++◌, length, get_or, Option, Some, None, sym, refl, ap, ◌∙◌, subst, inl, ⊎_elim, arith}
-use Rattle.std.proofs.lemmas.List.{map-append, length-map, length-take}
-use Rattle.std.proofs.lemmas.Bool.{false≢true}
+use Rattle.std.proofs.Common.{◌≡◌, ◌==◌, ℕ, suc, cond, ◌<◌, ◌≤◌, Bool, true, false, Decides, ◌⊎◌, List, [], ◌∷◌, ◌++◌, ◌+◌, ◌-◌, length, get_or, take, drop, Option, Some, None, sym, refl, ap, ◌∙◌, subst, inl, ⊎_elim, arith}
+use Rattle.std.proofs.lemmas.List.{map-append, length-map, length-take, append-nil}
+use Rattle.std.proofs.lemmas.Bool.{false≢true, eqb-true}
 use Rattle.std.proofs.lemmas.Option.{none-some}
 use Rattle.rules.specs.declared.Term.TheVariants.{Null}
 use Rattle.rules.specs.declared.Atom.{Atom}
 use Rattle.rules.specs.declared.rule.Rule.{Rule}
 use Rattle.rules.specs.Logic.{In, Each, Formula, formula_of}
-use Rattle.rules.specs.Bounds.{head_of, flags, FlagsAre}
+use Rattle.rules.specs.Bounds.{body_of, head_of, flags, FlagsAre}
 use Rattle.rules.specs.Rules.{meaning}
 use Rattle.rules.proofs.Membership.{decides_false}
 use Rattle.matches.specs.Lists.{look, formulas}
@@ -24,7 +24,9 @@ use Rattle.std.specs.List.{filter}
 use Rattle.reliances.specs.RestraintSearch.{opens?, shifted}
 use Rattle.reliances.specs.Searching.{gone, rigid_for, Follows, Deserted, Searched}
 use Rattle.reliances.proofs.Unify.{Slotted, some_same}
-use Rattle.reliances.proofs.Nodes.{makes, no_atom, node_start, node_old, node_new, get_d_in}
+use Rattle.reliances.proofs.Nodes.{makes, node_all, node_taken, taken_length, drop_whole, no_atom, node_start, node_old, node_new, get_d_in}
+use Rattle.reliances.proofs.RelianceEnd as reliance_end
+use Rattle.reliances.proofs.RestraintEnd as restraint_end
 use Rattle.reliances.proofs.Positive as positive
 use Rattle.reliances.proofs.Restraint as restraint
 
@@ -116,11 +118,33 @@ module _ (kind : Kind) (A B : Rule) (rigid : List Bool) (is : Flagged kind A B r
     pub next_in : In (formula_of b) (gone kind (meaning B))
     next_in = node.reached.rest_from (formula_of b) (inl refl)
 
+  -- one of the atoms that remain is taken out
+  module _ (old rest others : List Atom) (i : ℕ) (below : i < length rest) (is_rest : others ≡ take i rest ++ take (length rest - (i + 1)) (drop (i + 1) rest)) where
+    others_are : others ≡ take i rest ++ drop (i + 1) rest
+    others_are = is_rest ∙ ap (λ z. take i rest ++ z) (drop_whole rest (i + 1))
+
+    pub taken : NodeHere σ old rest → NodeHere σ old (get_or rest i no_atom ∷ others)
+    taken node =
+        subst (λ z. NodeHere σ old (get_or rest i no_atom ∷ z)) (sym others_are)
+        (node_taken (meaning A).head (gone kind (meaning B)) (slots_heads kind A B rigid is) (slots_gone kind A B rigid is) rigid σ old rest i below node)
+
+    pub fewer : suc (length others) ≡ length rest
+    fewer = ap (λ z. suc (length z)) others_are ∙ taken_length rest i no_atom below
+
+  -- all that remains is left old
+  pub all_old : (old rest : List Atom) → NodeHere σ old rest → NodeHere σ (old ++ rest) []
+  all_old = node_all (meaning A).head (gone kind (meaning B)) (slots_heads kind A B rigid is) (slots_gone kind A B rigid is) rigid σ
+
   -- an answer from the last child is one from the node
   pub searched_old : (r : Bool) (s t u : Sheet) (old more heads : List Atom) (b : Atom) → In (formula_of b) (gone kind (meaning B)) → heads ≡ head_of A.parts
       → Each (NotJoined kind A B rigid σ old b) heads → more ≡ old ++ (b ∷ []) → t ≡ s → Searched r kind A B rigid σ more t u → Searched r kind A B rigid σ old s u
   searched_old true s t u old more heads b i e tried m same shows = shows
   searched_old false s t u old more heads b i e tried m same left = (none_follows old heads b i e tried (subst (Deserted kind A B rigid σ) m left.0), left.1 ∙ same)
+
+-- a list that is empty
+pub none_left : (xs : List Atom) (r : Bool) → r ≡ (length xs == 0) → r ≡ true → xs ≡ []
+none_left [] r e p = refl
+none_left (x ∷ xs) r e p = let z = eqb-true (suc (length xs)) 0 (sym e ∙ p) in absurd (omega arith)
 
 pub few_open : {X : Type 0} (p : X → Bool) (xs : List X) → length (filter p xs) ≤ length xs
 few_open p [] = omega arith
@@ -141,20 +165,43 @@ few_shifted B =
     let same = length-map (head_of B.parts) formula_of in
     simp length-map (omega (arith, few, heads, same))
 
-few_gone : (kind : Kind) (B : Rule) → length (gone kind (meaning B)) ≤ 6
+pub few_body : (B : Rule) → length (body_of B.parts) ≤ 6
+few_body B = let few = (makes B).few_body in simp length-take (omega arith)
+
+pub few_gone : (kind : Kind) (B : Rule) → length (gone kind (meaning B)) ≤ 6
 few_gone Positive B =
-    let few = (makes B).few_body in
-    simp (length-map, length-take) (omega arith)
+    let few = few_body B in
+    simp length-map (omega (arith, few))
 few_gone Restraint B = let few = few_shifted B in omega (arith, few)
 
--- so there is room for one more that is left old
-pub room : (kind : Kind) (A B : Rule) (rigid : List Bool) (σ : Subst) (old rest : List Atom) (b : Atom) → Node (meaning A).head (gone kind (meaning B)) rigid σ old (b ∷ rest) → length old < 6
-room kind A B rigid σ old rest b node =
+-- so there is room for those that are old and those that remain
+pub room_all : (kind : Kind) (A B : Rule) (rigid : List Bool) (σ : Subst) (old rest : List Atom) → Node (meaning A).head (gone kind (meaning B)) rigid σ old rest → length old + length rest ≤ 6
+room_all kind A B rigid σ old rest node =
     let few = few_gone kind B in
     let left = node.left.few in
     let p = length-map old formula_of in
     let q = length-map rest formula_of in
     omega (arith, few, left, p, q)
+
+-- and for one more that is left old
+pub room : (kind : Kind) (A B : Rule) (rigid : List Bool) (σ : Subst) (old rest : List Atom) (b : Atom) → Node (meaning A).head (gone kind (meaning B)) rigid σ old (b ∷ rest) → length old < 6
+room kind A B rigid σ old rest b node = let few = room_all kind A B rigid σ old (b ∷ rest) node in omega (arith, few)
+
+-- where every atom is old, no witness follows
+pub none_new : (kind : Kind) (A B : Rule) (rigid : List Bool) → Flagged kind A B rigid → (σ : Subst) (old rest all : List Atom) (count : ℕ) → count ≡ length (gone kind (meaning B))
+    → all ≡ old ++ rest → rest ≡ [] → count ≤ length all → Node (meaning A).head (gone kind (meaning B)) rigid σ old rest → Deserted kind A B rigid σ old
+none_new kind A B rigid is σ old rest all count e p q l node =
+    at kind is e (subst (NodeHere σ old) q node)
+  where
+    NodeHere : Subst → List Atom → List Atom → Type 0
+    NodeHere = Node (meaning A).head (gone kind (meaning B)) rigid
+
+    full : count ≤ length old
+    full = subst (λ z. count ≤ length z) (p ∙ ap (λ z. old ++ z) q ∙ append-nil old) l
+
+    at : (k : Kind) → Flagged k A B rigid → count ≡ length (gone k (meaning B)) → Node (meaning A).head (gone k (meaning B)) rigid σ old [] → Deserted k A B rigid σ old
+    at Positive f c n = reliance_end.none_new A B rigid f σ old count n c full
+    at Restraint f c n = restraint_end.none_new A B rigid f σ old count n c full
 
 -- the search from the start on
 module _ (kind : Kind) (A B : Rule) (rigid : List Bool) (is : Flagged kind A B rigid) where

@@ -22,17 +22,25 @@ pub record Followed (A B : Implication) (rigid : ℕ → Bool) (σ : Subst) (old
   pub good : Good (both first second) rigid σ
   pub actual : Each (λ o. In (under second o) facts) old
 
+-- A can be applied on the facts F, and B's match is none on them
+pub record Free (A B : Implication) (rigid : ℕ → Bool) (σ : Subst) (F : List Formula) : Type 0 where
+  pub spare : (r : ℕ) → rigid r ≡ true → Stands (Null r) F → ⊥
+  pub first : Satisfied A (look (part σ 0)) F → ⊥
+  pub new : Match B (look (part σ 12)) F → ⊥
+
 -- nothing at the node rules the reliance out for good
 pub record Open (A B : Implication) (rigid : ℕ → Bool) (σ : Subst) (old : List Formula) : Type 0 where
-  pub spare : (r : ℕ) → rigid r ≡ true → Stands (Null r) (candidate A σ old) → ⊥
-  pub first : Satisfied A (look (part σ 0)) (candidate A σ old) → ⊥
+  pub free : Free A B rigid σ (candidate A σ old)
   pub second : Satisfied B (look (part σ 12)) (result A (look (part σ 0)) (candidate A σ old)) → ⊥
-  pub new : Match B (look (part σ 12)) (candidate A σ old) → ⊥
 
--- the sheet that a way ends in
-pub record IsFound (A : Rule) (σ : Subst) (old : List Atom) (s : Sheet) : Type 0 where
+-- the facts of a node as atoms
+abbrev pub laid_facts : Rule → Subst → List Atom → List Atom
+laid_facts A σ old = map (under_atom (look (part σ 0))) (body_of A.parts) ++ map (under_atom (look (part σ 12))) old
+
+-- the sheet that a node ends in
+pub record IsFound (σ : Subst) (facts : List Atom) (s : Sheet) : Type 0 where
   pub few : s.first_len ≤ 11
   pub empty : s.second_len ≡ 0
   pub first_rule : s.first_rule ≡ part σ 0
   pub second_rule : s.second_rule ≡ part σ 12
-  pub list : take s.first_len s.first ≡ map (under_atom (look (part σ 0))) (body_of A.parts) ++ map (under_atom (look (part σ 12))) old
+  pub list : take s.first_len s.first ≡ facts

@@ -72,6 +72,10 @@ abbrev pub EarlyFound : Implication → Assignment → List Formula → Option E
 EarlyFound B h S (Some e) = Spares B h S e.spared (look e.values)
 EarlyFound B h S None = (k : Assignment) → Alternative B h S k → ⊥
 
+-- an alternative on S spares a null that no flexible null in it can become
+abbrev pub Stuck : Implication → (ℕ → Bool) → Assignment → List Formula → Type 0
+Stuck B rigid h S = (v : ℕ) × (k : Assignment) × Spares B h S v k × ((r : ℕ) → rigid r ≡ false → Stands (Null r) (map (under k) B.head) → ⊥)
+
 -- the term is a flexible null that stands in the formulas, and in no slot before
 abbrev pub IsChoice : List Bool → List Term → List Formula → Term → Type 0
 IsChoice rigid before F t = (flexible (flags rigid) t ≡ true) × (In t before → ⊥) × Stands t F

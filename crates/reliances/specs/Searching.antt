@@ -1,5 +1,5 @@
 -- What is known at a node of either search, by its kind (below the public contracts).
-use Rattle.std.specs.Prelude.{◌≡◌, ℕ, Bool, true, false, List}
+use Rattle.std.specs.Prelude.{◌≡◌, ℕ, ◌<◌, Bool, true, false, List, length}
 use Rattle.rules.specs.Bounds.{flags}
 use Rattle.rules.specs.declared.Atom.{Atom}
 use Rattle.rules.specs.declared.rule.Rule.{Rule}
@@ -8,6 +8,8 @@ use Rattle.rules.specs.Rules.{meaning}
 use Rattle.matches.specs.Lists.{formulas}
 use Rattle.reliances.specs.declared.sheet.Kind.{Kind}
 use Rattle.reliances.specs.declared.sheet.Kind.TheVariants.{Positive, Restraint}
+use Rattle.reliances.specs.declared.search.Sight.{Sight}
+use Rattle.reliances.specs.declared.search.Sight.TheVariants.{Found, Shut, Next}
 use Rattle.reliances.specs.declared.sheet.Sheet.{Sheet}
 use Rattle.reliances.specs.Unification.{Subst, rigid?, rigid_both}
 use Rattle.reliances.specs.Following.{Node}
@@ -34,9 +36,12 @@ Follows Restraint A B rigid σ old = restraint.Followed A B rigid σ old
 abbrev pub Deserted : Kind → Rule → Rule → List Bool → Subst → List Atom → Type 0
 Deserted kind A B rigid σ old = Follows kind (meaning A) (meaning B) (flags rigid) σ (formulas old) → ⊥
 
--- a yes says that the node is deserted
-abbrev pub Shut : Bool → Kind → Rule → Rule → List Bool → Subst → List Atom → Type 0
-Shut r kind A B rigid σ old = r ≡ true → Deserted kind A B rigid σ old
+-- what is seen at a node: the sheet shows the relation; or no facts and matches follow; or one of the atoms that remain is next.
+-- The sheet is as it was but where it shows the relation
+abbrev pub Seen : Sight → Kind → Rule → Rule → List Bool → Subst → List Atom → List Atom → Sheet → Sheet → Type 0
+Seen Found kind A B rigid σ old rest before after = Shows kind A B after
+Seen Shut kind A B rigid σ old rest before after = Deserted kind A B rigid σ old × (after ≡ before)
+Seen (Next i) kind A B rigid σ old rest before after = (i < length rest) × (after ≡ before)
 
 -- the way leads to a node of the search
 abbrev pub OnWay : Kind → Rule → Rule → List Bool → Subst → List Atom → List Atom → Type 0

@@ -1,16 +1,18 @@
 // The nodes of the search for a restraint, and the end of a way, where alternatives that come too early are refined away.
-ghost use Rattle.std.specs.Prelude.{◌≡◌, ◌+◌, ◌<◌, ◌≤◌, [], ◌++◌, map, length, Decides};
+ghost use Rattle.std.specs.Prelude.{◌≡◌, ◌<◌, ◌≤◌, [], ◌++◌, true, map, length, Decides};
 ghost use Rattle.rules.specs.Logic.{In};
+ghost use Rattle.rules.specs.Bounds.{flags};
+ghost use Rattle.reliances.specs.Unification.{part};
 ghost use Rattle.rules.specs.Rules.{meaning};
 ghost use Rattle.matches.specs.Lists.{look, formulas, under_atom};
 ghost use Rattle.reliances.specs.declared.sheet.Kind.TheVariants.{Restraint};
-ghost use Rattle.reliances.specs.RestraintSearch.{shift_by, shift_atom, laid_later, SomeSpared, EarlyFound, IsChoice, OtherIs, Open, IsFound};
-ghost use Rattle.reliances.specs.Searching.{OnWay, Shut, Searched};
+ghost use Rattle.reliances.specs.RestraintSearch.{shift_by, shift_atom, laid_later, SomeSpared, EarlyFound, Stuck, IsChoice, OtherIs, Open, IsFound};
+ghost use Rattle.reliances.specs.Searching.{OnWay, Seen, Searched};
 
 use crate::lists::{Reading, Under, push_each};
-use crate::search::{Question, Relation, Way, counted};
+use crate::search::{Question, Relation, Sight, Test, Way, counted, pick};
 use crate::substitution::{first_slots, has_rigid, second_slots, wide_slots};
-use crate::unifier::{is_flexible, replace, slot_value};
+use crate::unifier::{has_flexible, is_flexible, replace, slot_value};
 use crate::{Kind, Sheet};
 use arrayvec::ArrayVec;
 use matches::{Trigger, atom_under, sized, stands_in};
@@ -25,19 +27,53 @@ impl Relation for Restrains {
 
     ghost KIND = { Restraint };
 
-    fn is_shut(asked: &Question<Restrains>, way: &Way) -> bool {
-        if way.old.len() + way.rest.len() >= asked.count {
-            return false;
+    fn look(asked: &Question<Restrains>, way: &Way, all: &[Atom], sheet: &mut Sheet) -> Sight {
+        let kept = Way {
+            old: all,
+            rest: &[],
+            ..*way
+        };
+        if settle(asked, &kept, sheet) {
+            return Sight::Found;
         }
-        !is_open(asked, way, &later(asked, way))
+        if way.rest.is_empty() {
+            return Sight::Shut;
+        }
+        let list = later(asked, way.sigma, all);
+        let facts = &list[..list.len() - way.rest.len()];
+        if !is_open(asked, way, facts) || is_stuck(asked, way.sigma, facts) {
+            return Sight::Shut;
+        }
+        let test = Freedom {
+            asked,
+            sigma: way.sigma,
+        };
+        Sight::Next(pick(&test, &list, way.rest.len()))
     }
+}
 
-    // Some atom has to be new, and nothing may rule the restraint out.
-    fn finish(asked: &Question<Restrains>, way: &Way, sheet: &mut Sheet) -> bool {
-        if way.old.len() >= asked.count {
-            return false;
-        }
-        settle(asked, way, sheet)
+// The test of facts for a question: the first rule can be applied, and no alternative comes too early.
+#[derive(Clone, Copy)]
+struct Freedom<'a> {
+    asked: &'a Question<'a, Restrains>,
+    sigma: &'a [Term; 36],
+}
+
+impl Test for Freedom<'_> {
+    fn is_free(&self, facts: &[Atom]) -> bool {
+        let first = Trigger {
+            rule: self.asked.first,
+            values: first_slots(self.sigma),
+            facts,
+        };
+        let second = Trigger {
+            rule: self.asked.second,
+            values: second_slots(self.sigma),
+            facts,
+        };
+        !has_rigid(facts, &self.asked.rigid[..12])
+            && !first.is_satisfied()
+            && !second.has_alternative()
     }
 }
 
@@ -96,16 +132,16 @@ impl Reading for Other<'_> {
 
 // The facts of a node: what the second rule is applied on and gives, and what is there besides.
 // Both steps test that few are left old; a type that kept it would be made there only to be taken apart.
-fn later(asked: &Question<Restrains>, way: &Way) -> ArrayVec<Atom, 19>
-    requires { length way.now.old.now ≤ 3 }
-    ensures { result.items ≡ laid_later asked.now.first.now asked.now.second.now way.now.sigma.now way.now.old.now }
+fn later(asked: &Question<Restrains>, sigma: &[Term; 36], old: &[Atom]) -> ArrayVec<Atom, 19>
+    requires { length old.now ≤ 3 }
+    ensures { result.items ≡ laid_later asked.now.first.now asked.now.second.now sigma.now old.now }
 {
-    let second = second_slots(way.sigma);
+    let second = second_slots(sigma);
     let mut all = ArrayVec::new();
     push_each(asked.second.body(), &Under(second), &mut all);
     push_each(asked.second.head(), &Under(second), &mut all);
-    push_each(asked.first.body(), &Under(first_slots(way.sigma)), &mut all);
-    push_each(way.old, &Under(wide_slots(way.sigma)), &mut all);
+    push_each(asked.first.body(), &Under(first_slots(sigma)), &mut all);
+    push_each(old, &Under(wide_slots(sigma)), &mut all);
     all
 }
 
@@ -159,6 +195,23 @@ fn find_early(trigger: Trigger) -> Option<Early>
         }
     }
     None
+}
+
+// Whether an alternative comes too early in which no null can become the one that it spares: then none of them all can be
+// kept from coming too early.
+fn is_stuck(asked: &Question<Restrains>, sigma: &[Term; 36], facts: &[Atom]) -> bool
+    ensures { result ≡ true → Stuck (meaning asked.now.second.now) (flags asked.now.rigid) (look (part sigma.now 12)) (formulas facts.now) }
+{
+    let Some(early) = find_early(Trigger {
+        rule: asked.second,
+        values: second_slots(sigma),
+        facts,
+    }) else {
+        return false;
+    };
+    let mut given: ArrayVec<Atom, 4> = ArrayVec::new();
+    push_each(asked.second.head(), &Under(&early.values), &mut given);
+    !has_flexible(&given, &asked.rigid)
 }
 
 fn is_slot(t: Term, slots: &[Term]) -> bool
@@ -220,7 +273,7 @@ fn settle(asked: &Question<Restrains>, way: &Way, sheet: &mut Sheet) -> bool
     ensures { Searched result Restraint asked.now.first.now asked.now.second.now asked.now.rigid way.now.sigma.now way.now.old.now sheet.old sheet.new }
 {
     let sigma = way.sigma;
-    let list = later(asked, way);
+    let list = later(asked, sigma, way.old);
     if !is_open(asked, way, &list) {
         return false;
     }

@@ -1,10 +1,10 @@
 // The search behind a question: each atom of the second rule that is gone through is left old, or unified with a head atom
 // of the first rule.
-ghost use Rattle.std.specs.Prelude.{◌≡◌, ◌≤◌, [], length, take};
+ghost use Rattle.std.specs.Prelude.{◌≡◌, ◌+◌, ◌<◌, ◌≤◌, ◌++◌, length, take};
 ghost use Rattle.rules.specs.Bounds.{FlagsAre};
 ghost use Rattle.rules.specs.Rules.{meaning};
 ghost use Rattle.reliances.specs.declared.sheet.Kind.{Kind};
-ghost use Rattle.reliances.specs.Searching.{gone, rigid_for, OnWay, Shut, Searched};
+ghost use Rattle.reliances.specs.Searching.{gone, rigid_for, OnWay, Seen, Searched};
 
 use crate::lists::push_all;
 use crate::substitution::rigid_slots;
@@ -14,21 +14,36 @@ use arrayvec::ArrayVec;
 use rules::{Atom, Rule, Term};
 use std::marker::PhantomData;
 
+/// What is seen at a node of a search.
+#[derive(Clone, Copy)]
+pub(crate) enum Sight {
+    /// The sheet shows the relation.
+    Found,
+    /// No facts and matches follow.
+    Shut,
+    /// The atom to go on with, by its place among those that remain.
+    Next(usize),
+}
+
 /// A relation between two rules.
 pub(crate) trait Relation {
     const KIND: Kind;
 
     ghost KIND: { Kind };
 
-    /// Whether no facts and matches that show the relation can follow the way.
-    fn is_shut(asked: &Question<Self>, way: &Way) -> bool
-        requires { let q = asked.now in OnWay KIND q.first.now q.second.now q.rigid way.now.sigma.now way.now.old.now way.now.rest.now }
-        ensures { let q = asked.now in Shut result KIND q.first.now q.second.now q.rigid way.now.sigma.now way.now.old.now };
+    /// Looks at a node where some atom is new, and takes those that remain for old: most often that shows the relation, if
+    /// anything does. `all` is what was left old and what remains.
+    fn look(asked: &Question<Self>, way: &Way, all: &[Atom], sheet: &mut Sheet) -> Sight
+        requires node { let q = asked.now in OnWay KIND q.first.now q.second.now q.rigid way.now.sigma.now way.now.old.now way.now.rest.now }
+        requires all { all.now ≡ way.now.old.now ++ way.now.rest.now }
+        requires new { length all.now < asked.now.count }
+        ensures { let q = asked.now in Seen result KIND q.first.now q.second.now q.rigid way.now.sigma.now way.now.old.now way.now.rest.now sheet.old sheet.new };
+}
 
-    /// The end of a way, where no atom remains.
-    fn finish(asked: &Question<Self>, way: &Way, sheet: &mut Sheet) -> bool
-        requires { let q = asked.now in OnWay KIND q.first.now q.second.now q.rigid way.now.sigma.now way.now.old.now [] }
-        ensures { let q = asked.now in Searched result KIND q.first.now q.second.now q.rigid way.now.sigma.now way.now.old.now sheet.old sheet.new };
+/// A test of facts. (A trait of its own, and no step of a relation: that would lead back to the step that calls it.)
+pub(crate) trait Test {
+    /// Whether nothing rules the relation out on the facts. It is a hint of which atom to go on with, so nothing is promised.
+    fn is_free(&self, facts: &[Atom]) -> bool;
 }
 
 /// Whether the relation holds between two rules, with the slots that keep their nulls while that is searched.
@@ -74,17 +89,18 @@ pub(crate) fn search<R: Relation>(asked: &Question<R>, way: &Way, sheet: &mut Sh
     requires { let q = asked.now in OnWay R.KIND q.first.now q.second.now q.rigid way.now.sigma.now way.now.old.now way.now.rest.now }
     ensures { let q = asked.now in Searched result R.KIND q.first.now q.second.now q.rigid way.now.sigma.now way.now.old.now sheet.old sheet.new }
 {
-    let Some((next, rest)) = way.rest.split_first() else {
-        return R::finish(asked, way, sheet);
+    let i = match see(asked, way, sheet) {
+        Sight::Found => return true,
+        Sight::Shut => return false,
+        Sight::Next(i) => i,
     };
-    if R::is_shut(asked, way) {
-        return false;
-    }
+    let next = way.rest[i];
+    let rest = together(&way.rest[..i], &way.rest[i + 1..]);
     for head in asked.first.head() {
-        if let Some(sigma) = unify(head, next, way.sigma, &asked.rigid) {
+        if let Some(sigma) = unify(head, &next, way.sigma, &asked.rigid) {
             let joined = Way {
                 sigma: &sigma,
-                rest,
+                rest: &rest,
                 ..*way
             };
             if search(asked, &joined, sheet) {
@@ -92,15 +108,54 @@ pub(crate) fn search<R: Relation>(asked: &Question<R>, way: &Way, sheet: &mut Sh
             }
         }
     }
-    let mut more: ArrayVec<Atom, 6> = ArrayVec::new();
-    push_all(way.old, &mut more);
-    more.push(*next);
+    let old = together(way.old, &[next]);
     let kept = Way {
-        old: &more,
-        rest,
+        old: &old,
+        rest: &rest,
         ..*way
     };
     search(asked, &kept, sheet)
+}
+
+// What is seen at the node. Where no atom is new, there is nothing to look at yet.
+fn see<R: Relation>(asked: &Question<R>, way: &Way, sheet: &mut Sheet) -> Sight
+    requires { let q = asked.now in OnWay R.KIND q.first.now q.second.now q.rigid way.now.sigma.now way.now.old.now way.now.rest.now }
+    ensures { let q = asked.now in Seen result R.KIND q.first.now q.second.now q.rigid way.now.sigma.now way.now.old.now way.now.rest.now sheet.old sheet.new }
+{
+    let all = together(way.old, way.rest);
+    if all.len() < asked.count {
+        return R::look(asked, way, &all, sheet);
+    }
+    if way.rest.is_empty() {
+        return Sight::Shut;
+    }
+    Sight::Next(0)
+}
+
+// The atoms of two lists.
+fn together(first: &[Atom], second: &[Atom]) -> ArrayVec<Atom, 6>
+    requires { length first.now + length second.now ≤ 6 }
+    ensures { result.items ≡ first.now ++ second.now }
+{
+    let mut both = ArrayVec::new();
+    push_all(first, &mut both);
+    push_all(second, &mut both);
+    both
+}
+
+/// The place, among the last facts, of one to go on with: the last of a few without which nothing would rule the relation out.
+/// So once these few are left old, the node is shut.
+pub(crate) fn pick<T: Test>(test: &T, facts: &[Atom], remain: usize) -> usize
+    requires { (1 ≤ remain) × (remain ≤ length facts.now) }
+    ensures { result < remain }
+{
+    let from = facts.len() - remain;
+    for i in 1..remain {
+        if !test.is_free(&facts[..from + i]) {
+            return i - 1;
+        }
+    }
+    remain - 1
 }
 
 /// The atoms in an array, and how many they are.

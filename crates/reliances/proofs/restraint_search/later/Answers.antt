@@ -5,7 +5,7 @@ use Rattle.reliances.proofs.restraint_search.later.Goals as goal
 
 pub returns : goal.returns
 returns c =
-    let old = c.args.way.now.old.now in
+    let old = c.args.old.now in
     let second = c.second_slots-second.ensures in
     laid_four _ c.push_each.new.into.items _ c.body.result.now c.new-all.ensures c.push_each.ensures c.push_each-2.new.into.items _ c.head.result.now c.push_each-2.ensures
     c.push_each-3.new.into.items c.push_each-4.new.into.items _ _ c.body-2.result.now old c.push_each-3.ensures c.push_each-4.ensures
