@@ -9,4 +9,6 @@ mod expect;
 #[cfg(test)]
 mod marked;
 #[cfg(test)]
+mod mistakes;
+#[cfg(test)]
 mod text;
