@@ -11,4 +11,6 @@ mod marked;
 #[cfg(test)]
 mod mistakes;
 #[cfg(test)]
+mod sheets;
+#[cfg(test)]
 mod text;
