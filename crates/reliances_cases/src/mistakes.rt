@@ -208,7 +208,7 @@ const LARGEST: &str = "
     # an alternative that leaves out the null of variable 11 is not seen, or not seen where it comes too early
     restrains: master(e) -> q(9,e); p(a,b,c,d), p(e,f,g,h) -> r(a,i), s(a,j), t(a,k), q(l,a)
     restrains not: master(e,f) -> r(e,f); p(a,b,c,d), p(e,f,g,h), t(a,h) -> r(a,i), s(a,j), q(a,k), t(a,l)
-    # one of four alternatives that come too early is seen
+    # alternatives that come too early are not asked about; here they leave out up to three nulls of four
     restrains not: master(e,f) -> q(e,f); frame(e) -> q(e,f), q(e,g), q(e,h), q(e,i)
 ";
 
