@@ -34,8 +34,8 @@ loop-a-preserved c =
           let more = ap (λ z. z.items) w.open-is ∙ w.push.ensures.items in (
             kept_more p heads kept i c.loop-a-test.true c.loop-a.invariant.0 c.if-is_open.open.items more (sym c.is_open.ensures ∙ w.if-is_open.true),
             subst (Each Small) (sym more)
-            (each_more Small kept (get_or heads i no_atom) c.loop-a.invariant.1
-            (small_head r (get_or heads i no_atom) (subst (In (get_or heads i no_atom)) c.head-a-items.ensures.same (get_d_in heads i no_atom c.loop-a-test.true)))),
+                (each_more Small kept (get_or heads i no_atom) c.loop-a.invariant.1
+                (small_head r (get_or heads i no_atom) (subst (In (get_or heads i no_atom)) c.head-a-items.ensures.same (get_d_in heads i no_atom c.loop-a-test.true)))),
           )
       | else-is_open w ↦ (
         ap (λ z. formulas z.items) w.open-is ∙ kept_same p heads kept i c.loop-a-test.true c.loop-a.invariant.0 (sym c.is_open.ensures ∙ w.if-is_open.false),

@@ -105,10 +105,10 @@ loop-i-preserved t c =
       | else-is_choice w ↦ (
         w.sheet-is ∙ c.loop-i.invariant.0,
         more
-        (no_choice A B q.rigid q.flags σ old v i F (get_or σ i (Constant 0))
-        (subst (λ z. IsChoice q.rigid (take i σ) (formulas z) (get_or σ i (Constant 0)) → ⊥) c.deref-in-loop-i.ensures.0
-        (not_from_Decides c.is_choice.result c.is_choice.ensures w.if-is_choice.false))
-        c.loop-i.invariant.1),
+            (no_choice A B q.rigid q.flags σ old v i F (get_or σ i (Constant 0))
+            (subst (λ z. IsChoice q.rigid (take i σ) (formulas z) (get_or σ i (Constant 0)) → ⊥) c.deref-in-loop-i.ensures.0
+            (not_from_Decides c.is_choice.result c.is_choice.ensures w.if-is_choice.false))
+            c.loop-i.invariant.1),
       )
     ]
 
@@ -126,8 +126,8 @@ returns t c =
     let given = c.push_each.new.into.items in
     let long = c.requires.node.reached.long in (
       all_refuted A B q.rigid q.flags σ old c.second_slots.result.now S v values c.requires.node c.second_slots.ensures d c.in-Some.ensures
-      (formulas given)
-      (given_is B (look values) c.head.result.now given c.head.ensures.same (laid_one _ given _ c.head.result.now c.new-given.ensures c.push_each.ensures))
-      (subst (Each (Refuted A B q.rigid σ old v (formulas given))) (take_all c.loop-i.i σ (omega (arith, long, c.loop-i-test.false))) c.loop-i.invariant.1),
+          (formulas given)
+          (given_is B (look values) c.head.result.now given c.head.ensures.same (laid_one _ given _ c.head.result.now c.new-given.ensures c.push_each.ensures))
+          (subst (Each (Refuted A B q.rigid σ old v (formulas given))) (take_all c.loop-i.i σ (omega (arith, long, c.loop-i-test.false))) c.loop-i.invariant.1),
       c.loop-i.invariant.0,
     )

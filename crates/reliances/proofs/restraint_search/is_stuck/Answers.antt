@@ -23,5 +23,5 @@ returns c e =
       look values,
       subst (λ z. Spares (meaning B) (look z) S v (look values)) c.second_slots.ensures c.in-Some.ensures,
       none_loose (flags q.rigid) (map (under (look values)) (meaning B).head)
-      (ap (some_flexible? (flags q.rigid)) (sym given) ∙ sym c.has_flexible.ensures ∙ not-true c.has_flexible.result e),
+          (ap (some_flexible? (flags q.rigid)) (sym given) ∙ sym c.has_flexible.ensures ∙ not-true c.has_flexible.result e),
     )

@@ -28,7 +28,7 @@ search-requires g t c κs within =
       (
         within,
         subst (OnWay g.R.Relation.KIND q.first.now q.second.now q.rigid c.in-Some.sigma way.old.now) (sym same)
-        (next_new g.R.Relation.KIND q.first.now q.second.now q.rigid q.flags way.sigma.now way.old.now rest (get_or way.rest.now i no_atom) node
+            (next_new g.R.Relation.KIND q.first.now q.second.now q.rigid q.flags way.sigma.now way.old.now rest (get_or way.rest.now i no_atom) node
             c.in-Some.sigma c.head-head-items.result.now c.loop-head.head-index c.head-head-items.ensures.same c.loop-head-test.true c.in-Some.ensures),
       ),
     )
@@ -46,13 +46,13 @@ loop-head-preserved g t c =
           let left = w.if-search.ensures in (
             w.sheet-is ∙ left.1 ∙ c.loop-head.invariant.0,
             more
-            (not_followed g.R.Relation.KIND q.first.now q.second.now q.rigid q.flags way.sigma.now way.old.now next (get_or heads i no_atom) w.in-Some.sigma
-            w.in-Some.ensures left.0),
+                (not_followed g.R.Relation.KIND q.first.now q.second.now q.rigid q.flags way.sigma.now way.old.now next (get_or heads i no_atom) w.in-Some.sigma
+                w.in-Some.ensures left.0),
           )
       | in_default w ↦ (
         w.sheet-is ∙ c.loop-head.invariant.0,
         more
-        (not_unified g.R.Relation.KIND q.first.now q.second.now q.rigid q.flags way.sigma.now way.old.now next (get_or heads i no_atom) w.in_default.ensures),
+            (not_unified g.R.Relation.KIND q.first.now q.second.now q.rigid q.flags way.sigma.now way.old.now next (get_or heads i no_atom) w.in_default.ensures),
       )
     ]
 
@@ -80,7 +80,7 @@ search-requires-2 g t c κs within =
       (
         within,
         subst (OnWay g.R.Relation.KIND q.first.now q.second.now q.rigid way.sigma.now c.deref-2.result.now) (sym same)
-        (next_old g.R.Relation.KIND q.first.now q.second.now q.rigid q.flags way.sigma.now way.old.now rest (get_or way.rest.now i no_atom) node c.deref-2.result.now
+            (next_old g.R.Relation.KIND q.first.now q.second.now q.rigid q.flags way.sigma.now way.old.now rest (get_or way.rest.now i no_atom) node c.deref-2.result.now
             (c.deref-2.ensures.0 ∙ c.together-old.ensures)),
       ),
     )

@@ -26,7 +26,7 @@ returns-then-is_satisfied c =
     let G = resulted q.first.now q.second.now σ c.args.all.now list (c.deref.ensures.0 ∙ c.laid-list.ensures)
     ∙ ap (λ z. result (meaning q.first.now) (look (part σ 0)) (candidate (meaning q.first.now) σ (formulas z))) c.requires.all in (
       none_unsatisfied q.first.now q.second.now q.rigid q.flags σ way.old.now way.rest.now c.requires.node
-      (along (Satisfied (meaning q.second.now)) c.second_slots.result.now (part σ 12) (formulas list) _ c.second_slots.ensures G (c.is_satisfied.ensures.0 c.if-is_satisfied.true)),
+          (along (Satisfied (meaning q.second.now)) c.second_slots.result.now (part σ 12) (formulas list) _ c.second_slots.ensures G (c.is_satisfied.ensures.0 c.if-is_satisfied.true)),
       refl,
     )
 
@@ -70,16 +70,16 @@ returns-then-is_empty c =
       | then-is_empty-via-then-is_empty w ↦
           let same = c.requires.all ∙ ap (λ z. way.old.now ++ z) (none_left way.rest.now c.is_empty.result c.is_empty.ensures w.if-is_empty.true) ∙ append-nil way.old.now in (
             none_free A q.second.now q.rigid q.flags σ way.old.now way.rest.now c.requires.node
-            (subst (λ F. Free (meaning A) (meaning q.second.now) (flags q.rigid) σ F → ⊥)
-            (listed A q.second.now σ way.old.now _ (facts ∙ ap (laid_facts A σ) same))
-            (not_from_Decides c.is_free.result c.is_free.ensures c.if-is_free.false)),
+                (subst (λ F. Free (meaning A) (meaning q.second.now) (flags q.rigid) σ F → ⊥)
+                (listed A q.second.now σ way.old.now _ (facts ∙ ap (laid_facts A σ) same))
+                (not_from_Decides c.is_free.result c.is_free.ensures c.if-is_free.false)),
             refl,
           )
       | then-is_empty-via-else-is_empty+then-not-is_free w ↦ (
         none_free A q.second.now q.rigid q.flags σ way.old.now way.rest.now c.requires.node
-        (subst (λ F. Free (meaning A) (meaning q.second.now) (flags q.rigid) σ F → ⊥)
-        (listed A q.second.now σ way.old.now _ (kept_are A q.second.now σ way.old.now c.body-2.result.now all way.rest.now _ c.body-2.ensures.same c.requires.all facts))
-        (not_from_Decides w.is_free-else-is_empty.result w.is_free-else-is_empty.ensures w.if-not-is_free.true)),
+            (subst (λ F. Free (meaning A) (meaning q.second.now) (flags q.rigid) σ F → ⊥)
+            (listed A q.second.now σ way.old.now _ (kept_are A q.second.now σ way.old.now c.body-2.result.now all way.rest.now _ c.body-2.ensures.same c.requires.all facts))
+            (not_from_Decides w.is_free-else-is_empty.result w.is_free-else-is_empty.ensures w.if-not-is_free.true)),
         refl,
       )
     ]

@@ -57,9 +57,9 @@ returns-then-not-is_open c =
           (none_open A B q.rigid q.flags σ way.old.now way.rest.now c.requires.node (not_from_Decides c.is_open.result c.is_open.ensures w.if-not-is_open.true), left.1)
       | then-not-is_open-via-else-not-is_open+then-is_stuck w ↦ (
         none_stuck A B q.rigid q.flags σ way.old.now way.rest.now c.requires.node
-        (subst (Stuck (meaning B) (flags q.rigid) (look (part σ 12)))
-        (ap formulas part_here ∙ laid_later_lem A B σ way.old.now)
-        (w.is_stuck.ensures w.if-is_stuck.true)),
+            (subst (Stuck (meaning B) (flags q.rigid) (look (part σ 12)))
+            (ap formulas part_here ∙ laid_later_lem A B σ way.old.now)
+            (w.is_stuck.ensures w.if-is_stuck.true)),
         left.1,
       )
     ]
