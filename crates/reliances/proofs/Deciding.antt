@@ -17,7 +17,7 @@ use Rattle.matches.proofs.Bounded.{Bounded, by_formula}
 use Rattle.matches.proofs.Matching.{Agrees, Right, solve_right, Long, solve_long}
 use Rattle.matches.proofs.Literal.{decides_matches, decides_facts, decides_satisfied, decides_applies, is_slots}
 use Rattle.matches.proofs.Alternatives.{decides_chosen, spares_from, spares_to, its_spared}
-use Rattle.reliances.specs.Unification.{Subst, unify_formulas, rigid?, rigid_both, start, part, shift_formula, other, moved, loose_count, candidate, before_of, later_of}
+use Rattle.reliances.specs.Unification.{Subst, unify_formulas, rigid?, rigid_both, start, part, other, moved, loose_count, candidate, before_of, later_of}
 use Rattle.reliances.specs.Following.{Reached}
 use Rattle.reliances.specs.PositiveSearch as ps
 use Rattle.reliances.specs.RestraintSearch as rs

@@ -5,16 +5,15 @@ use Rattle.std.proofs.lemmas.Bool.Decides.{Decides-like, Decides-not, Decides-an
 use Rattle.std.proofs.lemmas.List.{map-append, length-map, length-append, append_assoc}
 use Rattle.std.proofs.Math.Seq.{take-append_seam}
 use Rattle.rules.specs.declared.Term.{Term}
-use Rattle.rules.specs.declared.Term.TheVariants.{Null}
 use Rattle.rules.specs.declared.Atom.{Atom}
 use Rattle.rules.specs.declared.rule.Rule.{Rule}
 use Rattle.rules.specs.Logic.{Formula, formula_of}
 use Rattle.rules.specs.Bounds.{body_of, head_of, flags}
-use Rattle.rules.specs.Matches.{Stands, under, Match, Satisfied, result}
+use Rattle.rules.specs.Matches.{Match, Satisfied, result}
 use Rattle.rules.specs.Rules.{meaning}
 use Rattle.matches.specs.Lists.{look, formulas, under_atom}
 use Rattle.reliances.specs.Unification.{Subst, part, candidate, HasRigid}
-use Rattle.reliances.specs.PositiveSearch.{Free, Open, laid_facts}
+use Rattle.reliances.specs.PositiveSearch.{Free, laid_facts}
 use Rattle.reliances.proofs.Laying.{all_under}
 
 module _ (A B : Rule) (σ : Subst) (old : List Atom) where

@@ -7,7 +7,7 @@ use Rattle.rules.specs.declared.Term.TheVariants.{Variable, Null}
 use Rattle.rules.specs.declared.Atom.{Atom}
 use Rattle.rules.specs.declared.rule.Rule.{Rule}
 use Rattle.rules.specs.Logic.{In, Each, Formula, Implication, formula_of}
-use Rattle.rules.specs.Bounds.{some, body_of, head_of, flags, FlagsAre}
+use Rattle.rules.specs.Bounds.{some, body_of, flags, FlagsAre}
 use Rattle.rules.specs.Matches.{Ground, Assignment, Stands, value, under, result}
 use Rattle.rules.specs.Reliances.{Alternative, ShowsRestraint}
 use Rattle.rules.specs.Rules.{meaning}

@@ -1,6 +1,6 @@
 -- From node to node of either search, by its kind, and what is known after all heads were tried.
 -- Assumes nothing.
-use Rattle.std.proofs.Common.{◌≡◌, ◌==◌, ℕ, suc, cond, ◌<◌, ◌≤◌, Bool, true, false, Decides, ◌⊎◌, List, [], ◌∷◌, ◌++◌, ◌+◌, ◌-◌, length, get_or, take, drop, Option, Some, None, sym, refl, ap, ◌∙◌, subst, inl, ⊎_elim, arith}
+use Rattle.std.proofs.Common.{◌≡◌, ◌==◌, ℕ, suc, cond, ◌<◌, ◌≤◌, Bool, true, false, Decides, ◌⊎◌, List, [], ◌∷◌, ◌++◌, ◌+◌, ◌-◌, length, get_or, take, drop, Some, None, sym, refl, ap, ◌∙◌, subst, inl, ⊎_elim, arith}
 use Rattle.std.proofs.lemmas.List.{map-append, length-map, length-take, append-nil}
 use Rattle.std.proofs.lemmas.Bool.{false≢true, eqb-true}
 use Rattle.std.proofs.lemmas.Option.{none-some}

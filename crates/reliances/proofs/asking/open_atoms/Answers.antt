@@ -1,13 +1,11 @@
-use Rattle.std.proofs.Common.{◌<◌, ◌≤◌, List, length, get_or, sym, ap, ◌∙◌, subst, arith}
-use Rattle.std.proofs.lemmas.List.{take_all}
-use Rattle.std.specs.List.{filter}
+use Rattle.std.proofs.Common.{◌≤◌, List, length, get_or, sym, ap, ◌∙◌, subst, arith}
 use Rattle.rules.specs.declared.Atom.{Atom}
 use Rattle.rules.specs.Logic.{In, Each}
 use Rattle.rules.specs.Rules.{meaning}
 use Rattle.matches.specs.Lists.{formulas}
 use Rattle.reliances.specs.Following.{Small}
 use Rattle.reliances.specs.RestraintSearch.{opens?}
-use Rattle.reliances.proofs.Nodes.{makes, no_atom, small_head, get_d_in}
+use Rattle.reliances.proofs.Nodes.{no_atom, small_head, get_d_in}
 use Rattle.reliances.proofs.Slots.{each_more}
 use Rattle.reliances.proofs.SearchSteps.{few_heads}
 use Rattle.reliances.proofs.Gone.{kept_more, kept_same, kept_few}

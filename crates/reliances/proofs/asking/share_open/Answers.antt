@@ -1,4 +1,4 @@
-use Rattle.std.proofs.Common.{◌&&◌, List, rules, sym, ap, ◌∙◌}
+use Rattle.std.proofs.Common.{◌&&◌, List, rules, sym, ◌∙◌}
 use Rattle.std.proofs.lemmas.Iterator.{YieldsList-from_slice}
 use Rattle.std.proofs.lemmas.Iterator.Search.{any_from_yields_List}
 use borrow.Author.Tests.{tests}

@@ -1,4 +1,4 @@
-use Rattle.std.proofs.Common.{◌++◌, map, ap, ◌∙◌}
+use Rattle.std.proofs.Common.{◌++◌, map, ◌∙◌}
 use Rattle.rules.specs.Bounds.{head_of}
 use Rattle.matches.specs.Lists.{look, under_atom}
 use Rattle.reliances.specs.Unification.{part}

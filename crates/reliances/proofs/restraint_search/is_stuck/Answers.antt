@@ -4,7 +4,7 @@ use Rattle.rules.specs.Bounds.{flags}
 use Rattle.rules.specs.Matches.{under}
 use Rattle.rules.specs.Rules.{meaning}
 use Rattle.matches.specs.Lists.{look, formulas, Spares}
-use Rattle.reliances.specs.Unification.{part, some_flexible?}
+use Rattle.reliances.specs.Unification.{some_flexible?}
 use Rattle.reliances.proofs.Laying.{laid_one}
 use Rattle.reliances.proofs.RestraintNodes.{given_is}
 use Rattle.reliances.proofs.RestraintEnd.{none_loose}

@@ -1,11 +1,10 @@
-use Rattle.std.proofs.Common.{◌≤◌, ◌++◌, [], List, map, length, sym, refl, ap, ◌∙◌, subst, arith}
+use Rattle.std.proofs.Common.{◌++◌, [], length, sym, refl, ap, ◌∙◌, subst, arith}
 use Rattle.std.proofs.lemmas.Bool.Decides.{not_from_Decides}
 use Rattle.std.proofs.lemmas.List.{length-take, append-nil}
-use Rattle.rules.specs.Bounds.{flags, body_of}
-use Rattle.rules.specs.declared.Atom.{Atom}
+use Rattle.rules.specs.Bounds.{flags}
 use Rattle.rules.specs.Matches.{Satisfied, result}
 use Rattle.rules.specs.Rules.{meaning}
-use Rattle.matches.specs.Lists.{look, formulas, under_atom}
+use Rattle.matches.specs.Lists.{look, formulas}
 use Rattle.reliances.specs.Unification.{part, candidate}
 use Rattle.reliances.specs.PositiveSearch.{Free, IsFound, laid_facts}
 use Rattle.reliances.proofs.Laying.{along}
