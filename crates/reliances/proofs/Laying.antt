@@ -18,10 +18,6 @@ all_under h (x ∷ xs) = ap (λ z. z ∷ formulas (map (under_atom h) xs)) (of_u
 pub along : (P : Assignment → List Formula → Type 0) (h k : List Term) (F G : List Formula) → h ≡ k → F ≡ G → P (look h) F → P (look k) G
 along P h k F G q e s = subst (P (look k)) e (subst (λ z. P (look z) F) q s)
 
--- a list, and one more at its end
-pub and_one : {X : Type 0} (none kept more xs : List X) (x : X) → none ≡ [] → kept ≡ none ++ xs → more ≡ kept ++ (x ∷ []) → more ≡ xs ++ (x ∷ [])
-and_one none kept more xs x empty p q = q ∙ ap (λ z. z ++ (x ∷ [])) (p ∙ ap (λ z. z ++ xs) empty)
-
 module _ {X : Type 0} (none one : List X) (f : X → X) (xs : List X) (empty : none ≡ []) (p : one ≡ none ++ map f xs) where
   pub laid_one : one ≡ map f xs
   laid_one = p ∙ ap (λ z. z ++ map f xs) empty

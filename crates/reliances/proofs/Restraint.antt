@@ -715,10 +715,6 @@ module _ (A B : Implication) (ba : Bounded A) (bb : Bounded B) (rigid : ℕ → 
       → (r : ℕ) × (rigid r ≡ false) × Stands (Null r) (map (under k) B.head) × Followed A B rigid (moved r v σ) old
   follow_refine σ old from w k v agrees present given absent = refine_at σ old w from k v agrees present given absent
 
--- a rule with no existential variable is not restrained
-pub none_without : (A B : Implication) → ((v : ℕ) → Existential B v → ⊥) → Restraint A B → ⊥
-none_without A B none r = none r.shows.alternative.spared r.shows.alternative.given
-
 -- where no atom of B's head that is gone through has the predicate of an atom of A's head, A does not restrain B
 pub no_shared : (A B : Implication) → shares? A.head (shifted B) ≡ false → Restraint A B → ⊥
 no_shared A B e r =

@@ -57,9 +57,6 @@ stands_decided v (a ∷ fs) =
     (in_either (Variable v) a.terms (terms_of fs))
     (Decides-or (has? v a) (some (has? v) fs) (has_decided v a) (stands_decided v fs))
 
-pub some_has_decided : (v : ℕ) (atoms : List Atom) → Decides (some (has? v) (map formula_of atoms)) (In (Variable v) (terms_of (map formula_of atoms)))
-some_has_decided v atoms = stands_decided v (map formula_of atoms)
-
 pub existential_decided : (r : Implication) (v : ℕ) → Decides (existential? r v) (Existential r v)
 existential_decided r v =
     Decides-and (some (has? v) r.head) _ (stands_decided v r.head)
