@@ -1,0 +1,181 @@
+//! Positive reliance.
+//!
+//! Why the search is complete. Take any facts F, application f of the first rule and match s of the second that show a
+//! reliance. Of F only f's body and those of s's body atoms that are in F matter: with fewer facts a match stays
+//! unsatisfied and a null stays fresh. So what shows a reliance is described by the set of the second rule's body atoms
+//! that are new, by the head atom of the first that each of them becomes, and by the equalities that follow. The
+//! most general values with these equalities show a reliance too: a map leads from them to the ones given that keeps
+//! constants and the new nulls, so a match that is satisfied, a fact that is old among the general ones would be so
+//! among the given ones. It is enough to look at each choice of new atoms and head atoms with its most general values.
+//!
+//! The search begins from one new atom, the first in the body, with all later ones old, and makes further ones new
+//! only where it must:
+//! - an old atom with a new null: it has to be new;
+//! - the first rule's match is satisfied, the second's is, or a new atom is old after all. This uses some atoms that
+//!   are old by default, and stays as long as they are old, whatever becomes equal: one of them has to be new. If it
+//!   uses none, nothing helps. The ways are tried one by one, and an atom that was tried as new is then kept old.
+//! Every description is reached, or dropped for a reason that holds of it.
+
+use crate::classes::{Classes, Pair, ANY, NULL_OF_FIRST, SECOND};
+use crate::hom::{satisfied, Facts};
+use crate::literal::{shows_reliance, Assignment, Fact, Witness, NULL};
+use crate::rule::{bits, Atom, Rule, CONSTANTS, FILLER};
+
+/// what is decided of a body atom of the second rule, if it is not the number of a head atom of the first
+pub const SOFT: u8 = 8;
+pub const FIRM: u8 = 9;
+
+#[derive(Clone, Copy)]
+struct State {
+    classes: Classes,
+    choice: [u8; 6],
+}
+
+struct Search<'a> {
+    pair: Pair<'a>,
+    witness: &'a mut Witness,
+}
+
+/// Does the second rule positively rely on the first? If so, the witness is filled.
+pub fn relies(first: &Rule, second: &Rule, witness: &mut Witness) -> bool {
+    if first.head_keys & second.body_keys == 0 || !shares_key(first, second) {
+        return false;
+    }
+    let mut pair = Pair::new(first, second);
+    pair.kind[SECOND as usize..SECOND as usize + 12].fill(ANY);
+    Search { pair, witness }.begin()
+}
+
+fn shares_key(first: &Rule, second: &Rule) -> bool {
+    let heads = &first.head[..first.heads];
+    second.body[..second.bodies].iter().any(|b| heads.iter().any(|a| a.key == b.key))
+}
+
+impl Search<'_> {
+    fn begin(&mut self) -> bool {
+        let mut state = State { classes: Classes::new(), choice: [SOFT; 6] };
+        (0..self.pair.second.bodies).any(|at| {
+            let found = self.make_new(&state, at);
+            state.choice[at] = FIRM;
+            found
+        })
+    }
+
+    /// tries each head atom for the body atom
+    fn make_new(&mut self, state: &State, at: usize) -> bool {
+        (0..self.pair.first.heads).any(|head| {
+            let mut next = *state;
+            next.choice[at] = head as u8;
+            self.join(&mut next.classes, at, head) && self.refine(&next)
+        })
+    }
+
+    fn join(&self, classes: &mut Classes, at: usize, head: usize) -> bool {
+        classes.join_atoms(&self.pair.second_body[at], &self.pair.first.head[head], &self.pair.kind)
+    }
+
+    /// makes one of the body atoms new, one after the other
+    fn make_one_new(&mut self, state: &State, set: u32) -> bool {
+        let mut state = *state;
+        bits(set).any(|at| {
+            let found = self.make_new(&state, at);
+            state.choice[at] = FIRM;
+            found
+        })
+    }
+
+    fn refine(&mut self, state: &State) -> bool {
+        match self.most_forced(state) {
+            Err(()) => return false,
+            Ok(Some(at)) => return self.make_new(state, at),
+            Ok(None) => {}
+        }
+        let (first, second) = (self.pair.first, self.pair.second);
+        let classes = &state.classes;
+        // the facts: the second's body, the first's body, the first's head
+        let mut facts = Facts::new();
+        self.pair.second_body[..second.bodies].iter().for_each(|a| facts.push(classes.atom(a)));
+        first.body[..first.bodies].iter().for_each(|a| facts.push(classes.atom(a)));
+        let old_count = facts.count;
+        first.head[..first.heads].iter().for_each(|a| facts.push(classes.atom(a)));
+        let all = (1u32 << facts.count) - 1;
+        if satisfied(second, &self.pair.second_head, SECOND, classes, &facts, all, 0).is_some() {
+            return false;
+        }
+        let chosen = |what: &dyn Fn(u8) -> bool| {
+            (0..second.bodies).filter(|&at| what(state.choice[at])).fold(0u32, |set, at| set | 1 << at)
+        };
+        let (soft, new) = (chosen(&|c| c == SOFT), chosen(&|c| c < SOFT));
+        let old = ((1u32 << old_count) - 1) & !new;
+        for at in bits(new) {
+            let same = facts.places(&facts.atoms[at]) & old;
+            if same & !soft != 0 {
+                return false;
+            }
+            if same != 0 {
+                return self.make_new(state, same.trailing_zeros() as usize);
+            }
+        }
+        match satisfied(first, &first.head, 0, classes, &facts, old, soft) {
+            Some(used) => self.make_one_new(state, used),
+            None => self.show(classes, &facts, old),
+        }
+    }
+
+    /// the old atom with a new null that the fewest head atoms can become; an error where one can be none
+    fn most_forced(&self, state: &State) -> Result<Option<usize>, ()> {
+        let mut best = None;
+        let mut fewest = 5;
+        for at in 0..self.pair.second.bodies {
+            if state.choice[at] < SOFT || !has_new_null(&self.pair, &state.classes, &self.pair.second_body[at]) {
+                continue;
+            }
+            let can = |head: &usize| self.join(&mut { state.classes }, at, *head);
+            let count = (0..self.pair.first.heads).filter(can).count();
+            if count == 0 || state.choice[at] == FIRM {
+                return Err(());
+            }
+            if count < fewest {
+                fewest = count;
+                best = Some(at);
+            }
+        }
+        Ok(best)
+    }
+
+    fn show(&mut self, classes: &Classes, facts: &Facts, old: u32) -> bool {
+        let w = &mut *self.witness;
+        w.before_count = 0;
+        w.besides_count = 0;
+        for at in bits(old) {
+            w.before[w.before_count] = plain_fact(&self.pair, &facts.atoms[at]);
+            w.before_count += 1;
+        }
+        w.first = plain_values(&self.pair, classes, 0);
+        w.second = plain_values(&self.pair, classes, SECOND);
+        assert!(shows_reliance(self.pair.first, self.pair.second, w), "a wrong yes");
+        true
+    }
+}
+
+/// does a null that the first rule's application gives stand in the atom?
+pub fn has_new_null(pair: &Pair, classes: &Classes, atom: &Atom) -> bool {
+    atom.terms.iter().any(|&t| pair.kind[classes.find(t) as usize & 127] == NULL_OF_FIRST)
+}
+
+/// Distinct classes get distinct values: constants themselves, all others nulls.
+pub fn plain_value(pair: &Pair, class: u8) -> u32 {
+    match class {
+        FILLER => u32::MAX,
+        c if c >= CONSTANTS => pair.constants[(c - CONSTANTS) as usize] as u32,
+        c => NULL + c as u32,
+    }
+}
+
+pub fn plain_fact(pair: &Pair, atom: &Atom) -> Fact {
+    Fact { key: atom.key, terms: atom.terms.map(|t| plain_value(pair, t)) }
+}
+
+pub fn plain_values(pair: &Pair, classes: &Classes, from: u8) -> Assignment {
+    std::array::from_fn(|v| plain_value(pair, classes.find(from + v as u8)))
+}
