@@ -5,7 +5,7 @@
 //! which atoms are old. Each is held against the definition. Existential variables range over all values that stand
 //! in the facts.
 
-use crate::draft::{draft, volume, Draft, Term};
+use crate::draft::{draft, volume, Atom, Draft, Term};
 use crate::generate::{rule, Random, Style};
 use crate::literal::Witness;
 use crate::reliance::relies;
@@ -27,7 +27,7 @@ struct Small {
 }
 
 fn small(draft: &Draft) -> Small {
-    let rows = |atoms: &[crate::draft::Atom]| {
+    let rows = |atoms: &[Atom]| {
         atoms.iter().map(|a| (a.predicate as i32 * 8 + a.terms.len() as i32, a.terms.clone())).collect()
     };
     Small {
@@ -211,13 +211,25 @@ fn tiny(random: &mut Random) -> Style {
     match random.from(0, 3) {
         0 => style,
         1 => Style { bodies: (1, 1), heads: (1, 3), arity: (wide - 1, wide), existentials: (1, 3), open: 70, ..style },
-        2 => Style { bodies: (1, 1), arity: (3, 4), universals: (1, 2), existentials: (2, 3), open: 70, ..style },
+        2 => Style { bodies: (1, 1), predicates: 2, arity: (2, 3), universals: (1, 2), existentials: (1, 3), open: 70, ..style },
         _ => Style { bodies: (1, 3), predicates: 3, open: 75, ..style },
     }
 }
 
 fn both(drafts: &[Draft]) -> Result<Vec<Rule>, String> {
     read_volume(&volume(drafts))
+}
+
+/// the rule with a body of one atom and one variable, which stands in the head for all universal ones
+fn narrow_body(rule: Draft, predicate: u16) -> Draft {
+    let universals = rule.universals();
+    let narrow = |term: Term| match term {
+        Term::Variable(v) if universals.contains(&v) => Term::Variable(11),
+        other => other,
+    };
+    let atom = |a: Atom| Atom { predicate: a.predicate, terms: a.terms.into_iter().map(narrow).collect() };
+    let body = vec![Atom { predicate, terms: vec![Term::Variable(11)] }];
+    Draft { body, head: rule.head.into_iter().map(atom).collect() }
 }
 
 /// how many variables are given values, and how many constants there are: the work rises steeply with it
@@ -233,7 +245,11 @@ pub fn compare(count: usize, seed: u64) -> Result<(), String> {
     let (mut pairs, mut reliances, mut restraints, mut differences) = (0, 0, 0, 0);
     while pairs < count {
         let style = tiny(&mut random);
-        let drafts = [rule(&style, &mut random), rule(&style, &mut random)];
+        let mut drafts = [rule(&style, &mut random), rule(&style, &mut random)];
+        if random.from(0, 3) == 0 {
+            let wide = Style { arity: (3, 3), predicates: 1, existentials: (1, 3), constants: 0, heads: (1, 2), ..style };
+            drafts = [0, 1].map(|n| narrow_body(rule(&wide, &mut random), 10 + n));
+        }
         let rules = both(&drafts)?;
         let smalls = [small(&drafts[0]), small(&drafts[1])];
         for (one, two) in [(0, 1), (1, 0), (0, 0)] {
@@ -258,7 +274,7 @@ pub fn compare(count: usize, seed: u64) -> Result<(), String> {
 }
 
 /// small pairs with known answers: first rule, second rule, reliance and restraint where told
-const MARKED: [(&str, &str, Option<bool>, Option<bool>); 16] = [
+const MARKED: [(&str, &str, Option<bool>, Option<bool>); 18] = [
     ("r(a,b) > f(a,b)", "f(a,b) > l(c,a)", Some(true), None),
     ("f(a,b) > l(c,a)", "r(a,b) > f(a,b)", Some(false), None),
     ("f(a) > u(a,b)", "u(a,a) > o(a)", Some(false), None),
@@ -277,6 +293,10 @@ const MARKED: [(&str, &str, Option<bool>, Option<bool>); 16] = [
     // the two nulls may be exchanged, which spares none
     ("f(a) > m(a,b,c) m(a,c,b)", "f(a) > m(a,b,c) m(a,c,b)", None, Some(false)),
     ("m(a,b) > l(a,b)", "m(a,b) > l(a,c)", None, Some(true)),
+    // both atoms of the alternative have to be new: an old one would satisfy the first rule
+    ("g(a) > q(a,b,a)", "f(a) > q(c,d,a) q(a,b,c)", None, Some(true)),
+    // the same of a reliance
+    ("g(a) > q(a,b,a)", "q(c,d,a) q(a,b,c) > f(d)", Some(true), None),
 ];
 
 pub fn marked() -> Result<(), String> {

@@ -98,6 +98,10 @@ impl Classes {
         Atom { key: atom.key, terms: atom.terms.map(|t| self.find(t)) }
     }
 
+    pub fn same_atom(&self, a: &Atom, b: &Atom) -> bool {
+        a.key == b.key && self.atom(a) == self.atom(b)
+    }
+
     /// makes two symbols equal, or says that they cannot be
     pub fn join(&mut self, x: u8, y: u8, kind: &[u8; 128]) -> bool {
         let (x, y) = (self.find(x), self.find(y));
@@ -106,7 +110,7 @@ impl Classes {
         }
         let (kx, ky) = (kind[x as usize & 127], kind[y as usize & 127]);
         let (stays, goes, bound, free) = if kx >= ky { (x, y, kx, ky) } else { (y, x, ky, kx) };
-        if JOINS[bound as usize] >> free & 1 == 0 {
+        if JOINS[bound as usize % 6] >> free & 1 == 0 {
             return false;
         }
         let apart = self.apart[goes as usize];
@@ -120,6 +124,16 @@ impl Classes {
             *class = if *class == goes { stays } else { *class };
         }
         true
+    }
+
+    /// whether no two terms of the atoms, taken alone, keep them from being equal
+    pub fn may_join_atoms(&self, a: &Atom, b: &Atom, kind: &[u8; 128]) -> bool {
+        a.key == b.key
+            && a.terms.iter().zip(&b.terms).all(|(&x, &y)| {
+                let (x, y) = (self.find(x), self.find(y));
+                let (kx, ky) = (kind[x as usize & 127], kind[y as usize & 127]);
+                x == y || JOINS[kx.max(ky) as usize % 6] >> kx.min(ky) & 1 == 1
+            })
     }
 
     /// makes two atoms of one key equal, or says that they cannot be

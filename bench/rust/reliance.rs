@@ -61,9 +61,15 @@ impl Search<'_> {
         })
     }
 
-    /// tries each head atom for the body atom
+    /// tries each head atom for the body atom; only one if it is that one already, since any other choice is a special case
     fn make_new(&mut self, state: &State, at: usize) -> bool {
-        (0..self.pair.first.heads).any(|head| {
+        let heads = &self.pair.first.head[..self.pair.first.heads];
+        let there = heads.iter().position(|head| state.classes.same_atom(head, &self.pair.second_body[at]));
+        let (from, to) = there.map_or((0, heads.len()), |head| (head, head + 1));
+        (from..to).any(|head| {
+            if (from..head).any(|before| state.classes.same_atom(&heads[before], &heads[head])) {
+                return false;
+            }
             let mut next = *state;
             next.choice[at] = head as u8;
             self.join(&mut next.classes, at, head) && self.refine(&next)
@@ -130,8 +136,9 @@ impl Search<'_> {
             if state.choice[at] < SOFT || !has_new_null(&self.pair, &state.classes, &self.pair.second_body[at]) {
                 continue;
             }
-            let can = |head: &usize| self.join(&mut { state.classes }, at, *head);
-            let count = (0..self.pair.first.heads).filter(can).count();
+            let heads = &self.pair.first.head[..self.pair.first.heads];
+            let can = |head: &&Atom| state.classes.may_join_atoms(&self.pair.second_body[at], head, &self.pair.kind);
+            let count = heads.iter().filter(can).count();
             if count == 0 || state.choice[at] == FIRM {
                 return Err(());
             }

@@ -96,9 +96,15 @@ impl Search<'_> {
         })
     }
 
-    /// tries each head atom of the first rule for the atom of k
+    /// tries each head atom of the first rule for the atom of k; only one if it is that one already
     fn make_new(&mut self, state: &State, at: usize) -> bool {
-        (0..self.pair.first.heads).any(|head| {
+        let heads = &self.pair.first.head[..self.pair.first.heads];
+        let there = heads.iter().position(|head| state.classes.same_atom(head, &self.other_head[at]));
+        let (from, to) = there.map_or((0, heads.len()), |head| (head, head + 1));
+        (from..to).any(|head| {
+            if (from..head).any(|before| state.classes.same_atom(&heads[before], &heads[head])) {
+                return false;
+            }
             let mut next = *state;
             next.choice[at] = head as u8;
             self.join(&mut next.classes, at, head) && self.refine(&next)
@@ -168,8 +174,9 @@ impl Search<'_> {
             if state.choice[at] < SOFT || !has_new_null(&self.pair, &state.classes, &self.other_head[at]) {
                 continue;
             }
-            let can = |head: &usize| self.join(&mut { state.classes }, at, *head);
-            let count = (0..self.pair.first.heads).filter(can).count();
+            let heads = &self.pair.first.head[..self.pair.first.heads];
+            let can = |head: &&Atom| state.classes.may_join_atoms(&self.other_head[at], head, &self.pair.kind);
+            let count = heads.iter().filter(can).count();
             if count == 0 || state.choice[at] == FIRM {
                 return Err(());
             }
