@@ -192,6 +192,100 @@ fn brute_restraint(first: &Small, second: &Small) -> bool {
     })
 }
 
+/// all facts over the values, of the keys that stand in the rules
+fn all_facts(rules: [&Small; 2], values: &[i32]) -> Vec<Fact> {
+    let mut keys: Vec<i32> = rules.into_iter().flat_map(|r| r.body.iter().chain(&r.head)).map(|a| a.0).collect();
+    keys.sort();
+    keys.dedup();
+    let mut facts = Vec::new();
+    for key in keys {
+        let places: Vec<u16> = (0..key as u16 % 8).collect();
+        any_way(&places, values, &mut [-1; 12], &mut |h| {
+            facts.push([key, h[0], h[1], h[2], h[3]]);
+            false
+        });
+    }
+    facts
+}
+
+fn applies(rule: &Small, h: &Values, facts: &[Fact]) -> bool {
+    all_in(&filled(&rule.body, h), facts) && !stands_in(rule, h, facts) && !is_satisfied(rule, h, facts)
+}
+
+/// by the definition alone, over every set of facts of two values
+fn reliance_over_two(first: &Small, second: &Small, two: &[i32]) -> bool {
+    let with_nulls = [two.to_vec(), null_list(first, FIRST)].concat();
+    each_part(&all_facts([first, second], two), &mut |before| {
+        any_way(&first.universals, two, &mut nulls(first, FIRST), &mut |f| {
+            let after = [before, &filled(&first.head, f)].concat();
+            applies(first, f, before)
+                && any_way(&second.universals, &with_nulls, &mut [-2; 12], &mut |s| {
+                    let wanted = filled(&second.body, s);
+                    all_in(&wanted, &after) && !all_in(&wanted, before) && !is_satisfied(second, s, &after)
+                })
+        })
+    })
+}
+
+/// likewise, where what is there besides is any set of facts of these two values and the nulls that were given
+fn restraint_over_two(first: &Small, second: &Small, two: &[i32]) -> bool {
+    let with_second = [two.to_vec(), null_list(second, SECOND)].concat();
+    let with_both = [with_second.clone(), null_list(first, FIRST)].concat();
+    let room = all_facts([first, second], &with_second);
+    each_part(&all_facts([first, second], two), &mut |before| {
+        any_way(&second.universals, two, &mut nulls(second, SECOND), &mut |h| {
+            let result = [before, &filled(&second.head, h)].concat();
+            if !applies(second, h, before) || has_alternative(second, h, &result) {
+                return false;
+            }
+            let besides: Vec<Fact> = room.iter().copied().filter(|f| !result.contains(f)).collect();
+            each_part(&besides, &mut |more| {
+                let later = [&result[..], more].concat();
+                !has_alternative(second, h, &later)
+                    && any_way(&first.universals, &with_second, &mut nulls(first, FIRST), &mut |f| {
+                        let last = [&later[..], &filled(&first.head, f)].concat();
+                        applies(first, f, &later)
+                            && any_way(&second.existentials, &with_both, &mut h.clone(), &mut |k| {
+                                is_alternative(second, h, k, &last)
+                            })
+                    })
+            })
+        })
+    })
+}
+
+/// Holds the search against every set of facts of two values. These show only some yeses: no yes may be missed.
+pub fn compare_over_two(count: usize, seed: u64) -> Result<(), String> {
+    let mut random = Random(seed);
+    let mut witness = Witness::default();
+    let (mut pairs, mut missed) = (0, 0);
+    let mut counts = [[0; 2]; 2];
+    while pairs < count {
+        let base = Style { arity: (1, 2), predicates: 2, constants: 0, ..tiny(&mut random) };
+        let style = Style { existentials: (0, 1), universals: (1, 2), bodies: (1, 2), heads: (1, 2), ..base };
+        let drafts = [rule(&style, &mut random), rule(&style, &mut random)];
+        let rules = both(&drafts)?;
+        let smalls = [small(&drafts[0]), small(&drafts[1])];
+        for (one, two) in [(0, 1), (1, 0), (0, 0)] {
+            let values = [PLAIN, PLAIN + 1];
+            let (a, b) = (&smalls[one], &smalls[two]);
+            let p = [reliance_over_two(a, b, &values), relies(&rules[one], &rules[two], &mut witness)];
+            let r = [restraint_over_two(a, b, &values), restrains(&rules[one], &rules[two], &mut witness)];
+            for (kind, answers) in [p, r].into_iter().enumerate() {
+                (0..2).for_each(|way| counts[kind][way] += answers[way] as usize);
+                if answers == [true, false] {
+                    println!("missed ({one},{two}) of kind {kind}: {drafts:?}");
+                    missed += 1;
+                }
+            }
+            pairs += 1;
+        }
+    }
+    let [[p, all_p], [r, all_r]] = counts;
+    println!("{pairs} pairs; reliance: {p} by sets of facts, {all_p} in all; restraint: {r}, {all_r}; {missed} missed");
+    if missed == 0 { Ok(()) } else { Err("some were missed".into()) }
+}
+
 /// The styles of the pairs that are compared: small in all, few wide atoms with many existential variables, and longer
 /// bodies.
 fn tiny(random: &mut Random) -> Style {

@@ -29,9 +29,10 @@ fn main() {
         ["hard"] => put(&draft::volume(&hand::rules())),
         ["answers"] => volume().and_then(|rules| put(answers(&rules).as_bytes())),
         ["times", rounds] => times(rounds),
-        ["exhaust", count, seed] => exhaust(count, seed),
+        ["exhaust", count, seed] => exhaust(count, seed, brute::compare),
+        ["exhaust-sets", count, seed] => exhaust(count, seed, brute::compare_over_two),
         ["marked"] => brute::marked(),
-        _ => Err("bench-rust generate STYLE SEED | hard | answers | times ROUNDS | exhaust COUNT SEED | marked".into()),
+        _ => Err("bench-rust generate STYLE SEED | hard | answers | times ROUNDS | exhaust COUNT SEED | exhaust-sets COUNT SEED | marked".into()),
     };
     if let Err(fault) = done {
         eprintln!("{fault}");
@@ -96,6 +97,6 @@ fn time(rounds: u32, first: &Rule, second: &Rule, decide: Decide) -> (bool, u128
     (answer, start.elapsed().as_nanos() / rounds as u128)
 }
 
-fn exhaust(count: &str, seed: &str) -> Result<(), String> {
-    brute::compare(number(count)?, number(seed)?)
+fn exhaust(count: &str, seed: &str, compare: fn(usize, u64) -> Result<(), String>) -> Result<(), String> {
+    compare(number(count)?, number(seed)?)
 }

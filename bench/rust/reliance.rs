@@ -8,12 +8,14 @@
 //! constants and the new nulls, so a match that is satisfied, a fact that is old among the general ones would be so
 //! among the given ones. It is enough to look at each choice of new atoms and head atoms with its most general values.
 //!
-//! The search begins from one new atom, the first in the body, with all later ones old, and makes further ones new
-//! only where it must:
-//! - an old atom with a new null: it has to be new;
-//! - the first rule's match is satisfied, the second's is, or a new atom is old after all. This uses some atoms that
-//!   are old by default, and stays as long as they are old, whatever becomes equal: one of them has to be new. If it
-//!   uses none, nothing helps. The ways are tried one by one, and an atom that was tried as new is then kept old.
+//! The search begins from one new atom, with all before it kept old and all after it old by default. It makes further
+//! ones new only where it must:
+//! - an old atom with a new null has to be new;
+//! - the first rule's match is satisfied, or a new atom is old after all. This uses some atoms that are old by default,
+//!   and holds as long as they are old, whatever becomes equal: one of them has to be new. If it uses none, nothing
+//!   helps. The ways are tried one by one, and an atom that was tried as new is then kept old.
+//! If the second rule's match is satisfied, nothing helps: all its body atoms are facts, be they old or new.
+//! A new atom that is some head atom already need not be tried as another: that would only make more equal.
 //! Every description is reached, or dropped for a reason that holds of it.
 
 use crate::classes::{Classes, Pair, ANY, NULL_OF_FIRST, SECOND};
