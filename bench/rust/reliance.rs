@@ -55,12 +55,27 @@ fn shares_key(first: &Rule, second: &Rule) -> bool {
 
 impl Search<'_> {
     fn begin(&mut self) -> bool {
+        if self.never_applies() {
+            return false;
+        }
         let mut state = State { classes: Classes::new(), choice: [SOFT; 6] };
         (0..self.pair.second.bodies).any(|at| {
             let found = self.make_new(&state, at);
             state.choice[at] = FIRM;
             found
         })
+    }
+
+    /// one of the rules' matches is always satisfied, since its head is in its body
+    fn never_applies(&self) -> bool {
+        let Pair { first, second, second_body, second_head, .. } = &self.pair;
+        let classes = Classes::new();
+        let always = |rule: &Rule, body: &[Atom; 6], head: &[Atom; 4], offset: u8| {
+            let mut facts = Facts::new();
+            body[..rule.bodies].iter().for_each(|a| facts.push(*a));
+            satisfied(rule, head, offset, &classes, &facts, (1 << rule.bodies) - 1, 0).is_some()
+        };
+        always(first, &first.body, &first.head, 0) || always(second, second_body, second_head, SECOND)
     }
 
     /// tries each head atom for the body atom; only one if it is that one already, since any other choice is a special case
@@ -93,11 +108,7 @@ impl Search<'_> {
     }
 
     fn refine(&mut self, state: &State) -> bool {
-        match self.most_forced(state) {
-            Err(()) => return false,
-            Ok(Some(at)) => return self.make_new(state, at),
-            Ok(None) => {}
-        }
+        let Ok(forced) = self.most_forced(state) else { return false };
         let (first, second) = (self.pair.first, self.pair.second);
         let classes = &state.classes;
         // the facts: the second's body, the first's body, the first's head
@@ -113,8 +124,10 @@ impl Search<'_> {
         let chosen = |what: &dyn Fn(u8) -> bool| {
             (0..second.bodies).filter(|&at| what(state.choice[at])).fold(0u32, |set, at| set | 1 << at)
         };
-        let (soft, new) = (chosen(&|c| c == SOFT), chosen(&|c| c < SOFT));
-        let old = ((1u32 << old_count) - 1) & !new;
+        let with_null = |at: &usize| has_new_null(&self.pair, classes, &facts.atoms[*at]);
+        let new = chosen(&|c| c < SOFT);
+        let old = ((1u32 << old_count) - 1) & !new & !bits((1 << second.bodies) - 1 & !new).filter(with_null).fold(0, |set, at| set | 1 << at);
+        let soft = chosen(&|c| c == SOFT) & old;
         for at in bits(new) {
             let same = facts.places(&facts.atoms[at]) & old;
             if same & !soft != 0 {
@@ -124,9 +137,11 @@ impl Search<'_> {
                 return self.make_new(state, same.trailing_zeros() as usize);
             }
         }
-        match satisfied(first, &first.head, 0, classes, &facts, old, soft) {
-            Some(used) => self.make_one_new(state, used),
-            None => self.show(classes, &facts, old),
+        match (satisfied(first, &first.head, 0, classes, &facts, old, soft), forced) {
+            (Some(0), _) => false,
+            (_, Some(at)) => self.make_new(state, at),
+            (Some(used), None) => self.make_one_new(state, used),
+            (None, None) => self.show(classes, &facts, old),
         }
     }
 

@@ -41,6 +41,9 @@ struct State {
 
 struct Search<'a> {
     pair: Pair<'a>,
+    /// Before any atom is chosen to be new: can the facts that are there in any case be without an alternative, for some
+    /// values? There is no piece then, and no witness.
+    probing: bool,
     /// the piece on which the alternative is looked for
     piece: u8,
     /// the second rule's head with the alternative's values in place of the nulls
@@ -69,7 +72,11 @@ pub fn restrains(first: &Rule, second: &Rule, witness: &mut Witness) -> bool {
         pair.kind[SECOND as usize + v] = if null { NULL_OF_SECOND } else { OF_SECOND };
     }
     let other_head = pair.second_head.map(|a| Atom { key: a.key, terms: a.terms.map(|t| other_term(second, t)) });
-    let mut search = Search { pair, piece: 0, other_head, witness };
+    let mut search = Search { pair, probing: true, piece: 0, other_head, witness };
+    if !search.refine(&State { classes: Classes::new(), choice: [SOFT; 4] }) {
+        return false;
+    }
+    search.probing = false;
     second.pieces[..second.piece_count].iter().any(|&piece| {
         search.piece = piece;
         second.open_of(piece) != 0 && search.begin()
@@ -117,14 +124,10 @@ impl Search<'_> {
 
     fn refine(&mut self, state: &State) -> bool {
         let classes = &state.classes;
-        if !self.spares(classes) {
+        if !self.probing && !self.spares(classes) {
             return false;
         }
-        match self.most_forced(state) {
-            Err(()) => return false,
-            Ok(Some(at)) => return self.make_new(state, at),
-            Ok(None) => {}
-        }
+        let Ok(forced) = self.most_forced(state) else { return false };
         let (first, second) = (self.pair.first, self.pair.second);
         let later = self.later(state);
         let Later { facts, all, .. } = &later;
@@ -143,16 +146,20 @@ impl Search<'_> {
                 return self.make_new(state, later.olds[same.trailing_zeros() as usize - later.olds_from]);
             }
         }
-        if let Some(used) = satisfied(first, &first.head, 0, classes, facts, *all, soft) {
-            return self.exclude(state, &later, used, None);
+        let first_satisfied = satisfied(first, &first.head, 0, classes, facts, *all, soft);
+        match (first_satisfied, forced) {
+            (Some(0), _) => return false,
+            (Some(used), None) => return self.exclude(state, &later, used, None),
+            _ => {}
         }
-        match self.cheapest_alternative(classes, &later, soft) {
-            Some((_, found)) if found.cost == 0 => false,
-            Some((nulls, found)) => {
+        match (self.cheapest_alternative(classes, &later, soft), forced) {
+            (Some((_, found)), _) if found.cost == 0 => false,
+            (_, Some(at)) => self.make_new(state, at),
+            (Some((nulls, found)), None) => {
                 let class_set = may_become(&found.values, nulls, found.spared as usize, &self.pair.kind, classes);
                 self.exclude(state, &later, found.used & soft, Some((class_set, found.spared)))
             }
-            None => self.show(state, &later),
+            (None, None) => self.probing || self.show(state, &later),
         }
     }
 
@@ -196,7 +203,10 @@ impl Search<'_> {
         first.body[..first.bodies].iter().for_each(|a| facts.push(classes.atom(a)));
         let olds_from = facts.count;
         let mut olds = [0; 4];
-        for at in bits(self.piece as u32).filter(|&at| state.choice[at] >= SOFT) {
+        let old = |at: &usize| {
+            state.choice[*at] >= SOFT && !has_new_null(&self.pair, classes, &self.other_head[*at])
+        };
+        for at in bits(self.piece as u32).filter(old) {
             olds[facts.count - olds_from] = at;
             facts.push(classes.atom(&self.other_head[at]));
         }
