@@ -98,6 +98,29 @@ impl Classes {
         Atom { key: atom.key, terms: atom.terms.map(|t| self.find(t)) }
     }
 
+    /// The classes that follow if the atom becomes the head atom `at`, if it can. Left out are those by which it
+    /// becomes some other head atom too, if that other one asks for less or comes first: they are a special case of it.
+    pub fn way(&self, atom: &Atom, heads: &[Atom], at: usize, kind: &[u8; 128]) -> Option<Classes> {
+        if !self.may_join_atoms(atom, &heads[at], kind) {
+            return None;
+        }
+        let joined = |at: usize| {
+            let mut classes = *self;
+            classes.join_atoms(atom, &heads[at], kind).then_some(classes)
+        };
+        let classes = joined(at)?;
+        let asks_for_less = |one: usize| {
+            one < at || joined(one).is_some_and(|other| !other.same_atom(&heads[one], &heads[at]))
+        };
+        let special = |one: usize| one != at && classes.same_atom(&heads[one], &heads[at]) && asks_for_less(one);
+        (!(0..heads.len()).any(special)).then_some(classes)
+    }
+
+    /// how many head atoms there are that `may_join_atoms` the atom
+    pub fn count_ways(&self, atom: &Atom, heads: &[Atom], kind: &[u8; 128]) -> usize {
+        heads.iter().filter(|head| self.may_join_atoms(atom, head, kind)).count()
+    }
+
     pub fn same_atom(&self, a: &Atom, b: &Atom) -> bool {
         a.key == b.key && self.atom(a) == self.atom(b)
     }

@@ -78,23 +78,19 @@ impl Search<'_> {
         always(first, &first.body, &first.head, 0) || always(second, second_body, second_head, SECOND)
     }
 
-    /// tries each head atom for the body atom; only one if it is that one already, since any other choice is a special case
-    fn make_new(&mut self, state: &State, at: usize) -> bool {
-        let heads = &self.pair.first.head[..self.pair.first.heads];
-        let there = heads.iter().position(|head| state.classes.same_atom(head, &self.pair.second_body[at]));
-        let (from, to) = there.map_or((0, heads.len()), |head| (head, head + 1));
-        (from..to).any(|head| {
-            if (from..head).any(|before| state.classes.same_atom(&heads[before], &heads[head])) {
-                return false;
-            }
-            let mut next = *state;
-            next.choice[at] = head as u8;
-            self.join(&mut next.classes, at, head) && self.refine(&next)
-        })
+    fn heads(&self) -> &[Atom] {
+        &self.pair.first.head[..self.pair.first.heads]
     }
 
-    fn join(&self, classes: &mut Classes, at: usize, head: usize) -> bool {
-        classes.join_atoms(&self.pair.second_body[at], &self.pair.first.head[head], &self.pair.kind)
+    /// tries each head atom for the body atom
+    fn make_new(&mut self, state: &State, at: usize) -> bool {
+        (0..self.pair.first.heads).any(|head| {
+            let way = state.classes.way(&self.pair.second_body[at], self.heads(), head, &self.pair.kind);
+            let Some(classes) = way else { return false };
+            let mut choice = state.choice;
+            choice[at] = head as u8;
+            self.refine(&State { classes, choice })
+        })
     }
 
     /// makes one of the body atoms new, one after the other
@@ -121,13 +117,7 @@ impl Search<'_> {
         if satisfied(second, &self.pair.second_head, SECOND, classes, &facts, all, 0).is_some() {
             return false;
         }
-        let chosen = |what: &dyn Fn(u8) -> bool| {
-            (0..second.bodies).filter(|&at| what(state.choice[at])).fold(0u32, |set, at| set | 1 << at)
-        };
-        let with_null = |at: &usize| has_new_null(&self.pair, classes, &facts.atoms[*at]);
-        let new = chosen(&|c| c < SOFT);
-        let old = ((1u32 << old_count) - 1) & !new & !bits((1 << second.bodies) - 1 & !new).filter(with_null).fold(0, |set, at| set | 1 << at);
-        let soft = chosen(&|c| c == SOFT) & old;
+        let (new, old, soft) = self.split(state, &facts, old_count);
         for at in bits(new) {
             let same = facts.places(&facts.atoms[at]) & old;
             if same & !soft != 0 {
@@ -145,6 +135,25 @@ impl Search<'_> {
         }
     }
 
+    /// Of the facts the new atoms, the old facts, and those that are old by default and might be new. An atom that has
+    /// to be new and is not yet is none of these.
+    fn split(&self, state: &State, facts: &Facts, old_count: usize) -> (u32, u32, u32) {
+        let (mut new, mut old, mut soft) = (0, (1u32 << old_count) - 1, 0);
+        for at in 0..self.pair.second.bodies {
+            let atom = &self.pair.second_body[at];
+            if state.choice[at] < SOFT {
+                new |= 1 << at;
+            } else if state.choice[at] == SOFT && !has_new_null(&self.pair, &state.classes, &facts.atoms[at]) {
+                soft |= ((state.classes.count_ways(atom, self.heads(), &self.pair.kind) > 0) as u32) << at;
+                continue;
+            } else if state.choice[at] == FIRM {
+                continue;
+            }
+            old &= !(1 << at);
+        }
+        (new, old, soft)
+    }
+
     /// the old atom with a new null that the fewest head atoms can become; an error where one can be none
     fn most_forced(&self, state: &State) -> Result<Option<usize>, ()> {
         let mut best = None;
@@ -153,9 +162,7 @@ impl Search<'_> {
             if state.choice[at] < SOFT || !has_new_null(&self.pair, &state.classes, &self.pair.second_body[at]) {
                 continue;
             }
-            let heads = &self.pair.first.head[..self.pair.first.heads];
-            let can = |head: &&Atom| state.classes.may_join_atoms(&self.pair.second_body[at], head, &self.pair.kind);
-            let count = heads.iter().filter(can).count();
+            let count = state.classes.count_ways(&self.pair.second_body[at], self.heads(), &self.pair.kind);
             if count == 0 || state.choice[at] == FIRM {
                 return Err(());
             }

@@ -16,13 +16,15 @@
 //!   else to a null of the second. So it takes each alternative to an alternative, each satisfied match to a
 //!   satisfied one, old facts to old facts. Hence the general values show a restraint too.
 //!
-//! The search begins with one new atom, and equates no value with a null. It goes further only where it must:
+//! The search begins with no new atom and with no value equal to a null, and looks at what of H is there in any case.
+//! Where that has no alternative, it chooses a piece and its first new atom. It goes further only where it must:
 //! - an old atom of k with a null of the first rule has to be new;
 //! - a match that has to be unsatisfied is satisfied, or a new atom is old after all. This holds as long as the old atoms
 //!   that it uses are old, whatever becomes equal: one of those that are old by default has to be new;
 //! - there is an alternative on H. Either one of the old atoms that it uses has to be new, or the null that it spares
 //!   has to be the value of one of the piece's variables: one of the values that are no null, no constant and no value
 //!   from F becomes this null.
+//! A new atom that is some head atom already need not be tried as another: that would only make more equal.
 //! The ways are tried one by one, and each is excluded from those after it. Where there is none, nothing helps.
 //! Every description is reached, or dropped for a reason that holds of it; and each step makes an atom new or a value
 //! a null, so it ends.
@@ -36,16 +38,13 @@ use crate::rule::{bits, Atom, Rule};
 #[derive(Clone, Copy)]
 struct State {
     classes: Classes,
+    /// the piece on which the alternative is looked for, none before any atom is chosen to be new
+    piece: u8,
     choice: [u8; 4],
 }
 
 struct Search<'a> {
     pair: Pair<'a>,
-    /// Before any atom is chosen to be new: can the facts that are there in any case be without an alternative, for some
-    /// values? There is no piece then, and no witness.
-    probing: bool,
-    /// the piece on which the alternative is looked for
-    piece: u8,
     /// the second rule's head with the alternative's values in place of the nulls
     other_head: [Atom; 4],
     witness: &'a mut Witness,
@@ -72,15 +71,8 @@ pub fn restrains(first: &Rule, second: &Rule, witness: &mut Witness) -> bool {
         pair.kind[SECOND as usize + v] = if null { NULL_OF_SECOND } else { OF_SECOND };
     }
     let other_head = pair.second_head.map(|a| Atom { key: a.key, terms: a.terms.map(|t| other_term(second, t)) });
-    let mut search = Search { pair, probing: true, piece: 0, other_head, witness };
-    if !search.refine(&State { classes: Classes::new(), choice: [SOFT; 4] }) {
-        return false;
-    }
-    search.probing = false;
-    second.pieces[..second.piece_count].iter().any(|&piece| {
-        search.piece = piece;
-        second.open_of(piece) != 0 && search.begin()
-    })
+    let begin = State { classes: Classes::new(), piece: 0, choice: [SOFT; 4] };
+    Search { pair, other_head, witness }.refine(&begin)
 }
 
 fn shares_key(first: &Rule, second: &Rule) -> bool {
@@ -94,37 +86,37 @@ fn other_term(second: &Rule, term: u8) -> u8 {
 }
 
 impl Search<'_> {
-    fn begin(&mut self) -> bool {
-        let mut state = State { classes: Classes::new(), choice: [SOFT; 4] };
-        bits(self.piece as u32).any(|at| {
-            let found = self.make_new(&state, at);
-            state.choice[at] = FIRM;
-            found
+    /// chooses a piece and its first new atom
+    fn begin(&mut self, state: &State) -> bool {
+        let second = self.pair.second;
+        second.pieces[..second.piece_count].iter().filter(|&&piece| second.open_of(piece) != 0).any(|&piece| {
+            let mut state = State { piece, ..*state };
+            bits(piece as u32).any(|at| {
+                let found = self.make_new(&state, at);
+                state.choice[at] = FIRM;
+                found
+            })
         })
     }
 
-    /// tries each head atom of the first rule for the atom of k; only one if it is that one already
+    fn heads(&self) -> &[Atom] {
+        &self.pair.first.head[..self.pair.first.heads]
+    }
+
+    /// tries each head atom of the first rule for the atom of k
     fn make_new(&mut self, state: &State, at: usize) -> bool {
-        let heads = &self.pair.first.head[..self.pair.first.heads];
-        let there = heads.iter().position(|head| state.classes.same_atom(head, &self.other_head[at]));
-        let (from, to) = there.map_or((0, heads.len()), |head| (head, head + 1));
-        (from..to).any(|head| {
-            if (from..head).any(|before| state.classes.same_atom(&heads[before], &heads[head])) {
-                return false;
-            }
-            let mut next = *state;
-            next.choice[at] = head as u8;
-            self.join(&mut next.classes, at, head) && self.refine(&next)
+        (0..self.pair.first.heads).any(|head| {
+            let way = state.classes.way(&self.other_head[at], self.heads(), head, &self.pair.kind);
+            let Some(classes) = way else { return false };
+            let mut choice = state.choice;
+            choice[at] = head as u8;
+            self.refine(&State { classes, choice, ..*state })
         })
-    }
-
-    fn join(&self, classes: &mut Classes, at: usize, head: usize) -> bool {
-        classes.join_atoms(&self.other_head[at], &self.pair.first.head[head], &self.pair.kind)
     }
 
     fn refine(&mut self, state: &State) -> bool {
         let classes = &state.classes;
-        if !self.probing && !self.spares(classes) {
+        if state.piece != 0 && !self.spares(state) {
             return false;
         }
         let Ok(forced) = self.most_forced(state) else { return false };
@@ -134,10 +126,13 @@ impl Search<'_> {
         if satisfied(second, &self.pair.second_head, SECOND, classes, facts, later.second_body, 0).is_some() {
             return false;
         }
+        let may_be_new = |at: usize| {
+            state.choice[at] == SOFT && classes.count_ways(&self.other_head[at], self.heads(), &self.pair.kind) > 0
+        };
         let soft = (0..facts.count - later.olds_from)
-            .filter(|&i| state.choice[later.olds[i]] == SOFT)
+            .filter(|&i| may_be_new(later.olds[i]))
             .fold(0u32, |set, i| set | 1 << (later.olds_from + i));
-        for at in bits(self.piece as u32).filter(|&at| state.choice[at] < SOFT) {
+        for at in bits(state.piece as u32).filter(|&at| state.choice[at] < SOFT) {
             let same = facts.places(&classes.atom(&self.other_head[at]));
             if same & !soft != 0 {
                 return false;
@@ -159,15 +154,16 @@ impl Search<'_> {
                 let class_set = may_become(&found.values, nulls, found.spared as usize, &self.pair.kind, classes);
                 self.exclude(state, &later, found.used & soft, Some((class_set, found.spared)))
             }
-            (None, None) => self.probing || self.show(state, &later),
+            (None, None) if state.piece == 0 => self.begin(state),
+            (None, None) => self.show(state, &later),
         }
     }
 
     /// the alternative leaves out some null of its piece
-    fn spares(&self, classes: &Classes) -> bool {
-        let nulls = self.pair.second.open_of(self.piece);
+    fn spares(&self, state: &State) -> bool {
+        let nulls = self.pair.second.open_of(state.piece);
         let hit = bits(nulls as u32).fold(0u16, |set, v| {
-            let class = classes.find(OTHER + v as u8);
+            let class = state.classes.find(OTHER + v as u8);
             if self.pair.kind[class as usize & 127] == NULL_OF_SECOND { set | 1 << (class - SECOND) } else { set }
         });
         nulls & !hit != 0
@@ -177,13 +173,11 @@ impl Search<'_> {
     fn most_forced(&self, state: &State) -> Result<Option<usize>, ()> {
         let mut best = None;
         let mut fewest = 5;
-        for at in bits(self.piece as u32) {
+        for at in bits(state.piece as u32) {
             if state.choice[at] < SOFT || !has_new_null(&self.pair, &state.classes, &self.other_head[at]) {
                 continue;
             }
-            let heads = &self.pair.first.head[..self.pair.first.heads];
-            let can = |head: &&Atom| state.classes.may_join_atoms(&self.other_head[at], head, &self.pair.kind);
-            let count = heads.iter().filter(can).count();
+            let count = state.classes.count_ways(&self.other_head[at], self.heads(), &self.pair.kind);
             if count == 0 || state.choice[at] == FIRM {
                 return Err(());
             }
@@ -206,7 +200,7 @@ impl Search<'_> {
         let old = |at: &usize| {
             state.choice[*at] >= SOFT && !has_new_null(&self.pair, classes, &self.other_head[*at])
         };
-        for at in bits(self.piece as u32).filter(old) {
+        for at in bits(state.piece as u32).filter(old) {
             olds[facts.count - olds_from] = at;
             facts.push(classes.atom(&self.other_head[at]));
         }
@@ -264,7 +258,7 @@ impl Search<'_> {
         w.first = plain_values(pair, classes, 0);
         w.second = plain_values(pair, classes, SECOND);
         w.other = w.second;
-        for v in bits(pair.second.open_of(self.piece) as u32) {
+        for v in bits(pair.second.open_of(state.piece) as u32) {
             w.other[v] = plain_value(pair, classes.find(OTHER + v as u8));
         }
         assert!(shows_restraint(pair.first, pair.second, w), "a wrong yes");
