@@ -55,7 +55,8 @@ fn shares_key(first: &Rule, second: &Rule) -> bool {
 
 impl Search<'_> {
     fn begin(&mut self) -> bool {
-        if self.never_applies() {
+        let can_be_new = |at: usize| self.count_ways(&Classes::new(), at) > 0;
+        if !(0..self.pair.second.bodies).any(can_be_new) || self.never_applies() {
             return false;
         }
         let mut state = State { classes: Classes::new(), choice: [SOFT; 6] };
@@ -80,6 +81,10 @@ impl Search<'_> {
 
     fn heads(&self) -> &[Atom] {
         &self.pair.first.head[..self.pair.first.heads]
+    }
+
+    fn count_ways(&self, classes: &Classes, at: usize) -> usize {
+        classes.count_ways(&self.pair.second_body[at], self.heads(), &self.pair.kind)
     }
 
     /// tries each head atom for the body atom
@@ -140,11 +145,10 @@ impl Search<'_> {
     fn split(&self, state: &State, facts: &Facts, old_count: usize) -> (u32, u32, u32) {
         let (mut new, mut old, mut soft) = (0, (1u32 << old_count) - 1, 0);
         for at in 0..self.pair.second.bodies {
-            let atom = &self.pair.second_body[at];
             if state.choice[at] < SOFT {
                 new |= 1 << at;
             } else if state.choice[at] == SOFT && !has_new_null(&self.pair, &state.classes, &facts.atoms[at]) {
-                soft |= ((state.classes.count_ways(atom, self.heads(), &self.pair.kind) > 0) as u32) << at;
+                soft |= ((self.count_ways(&state.classes, at) > 0) as u32) << at;
                 continue;
             } else if state.choice[at] == FIRM {
                 continue;
@@ -162,7 +166,7 @@ impl Search<'_> {
             if state.choice[at] < SOFT || !has_new_null(&self.pair, &state.classes, &self.pair.second_body[at]) {
                 continue;
             }
-            let count = state.classes.count_ways(&self.pair.second_body[at], self.heads(), &self.pair.kind);
+            let count = self.count_ways(&state.classes, at);
             if count == 0 || state.choice[at] == FIRM {
                 return Err(());
             }

@@ -72,7 +72,9 @@ pub fn restrains(first: &Rule, second: &Rule, witness: &mut Witness) -> bool {
     }
     let other_head = pair.second_head.map(|a| Atom { key: a.key, terms: a.terms.map(|t| other_term(second, t)) });
     let begin = State { classes: Classes::new(), piece: 0, choice: [SOFT; 4] };
-    Search { pair, other_head, witness }.refine(&begin)
+    let mut search = Search { pair, other_head, witness };
+    let can_be_new = |at: usize| second.open[at] != 0 && search.count_ways(&begin.classes, at) > 0;
+    (0..second.heads).any(can_be_new) && search.refine(&begin)
 }
 
 fn shares_key(first: &Rule, second: &Rule) -> bool {
@@ -103,6 +105,10 @@ impl Search<'_> {
         &self.pair.first.head[..self.pair.first.heads]
     }
 
+    fn count_ways(&self, classes: &Classes, at: usize) -> usize {
+        classes.count_ways(&self.other_head[at], self.heads(), &self.pair.kind)
+    }
+
     /// tries each head atom of the first rule for the atom of k
     fn make_new(&mut self, state: &State, at: usize) -> bool {
         (0..self.pair.first.heads).any(|head| {
@@ -127,7 +133,7 @@ impl Search<'_> {
             return false;
         }
         let may_be_new = |at: usize| {
-            state.choice[at] == SOFT && classes.count_ways(&self.other_head[at], self.heads(), &self.pair.kind) > 0
+            state.choice[at] == SOFT && self.count_ways(classes, at) > 0
         };
         let soft = (0..facts.count - later.olds_from)
             .filter(|&i| may_be_new(later.olds[i]))
@@ -177,7 +183,7 @@ impl Search<'_> {
             if state.choice[at] < SOFT || !has_new_null(&self.pair, &state.classes, &self.other_head[at]) {
                 continue;
             }
-            let count = state.classes.count_ways(&self.other_head[at], self.heads(), &self.pair.kind);
+            let count = self.count_ways(&state.classes, at);
             if count == 0 || state.choice[at] == FIRM {
                 return Err(());
             }
