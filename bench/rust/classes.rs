@@ -27,6 +27,9 @@ pub struct Pair<'a> {
     pub second: &'a Rule,
     pub second_body: [Atom; 6],
     pub second_head: [Atom; 4],
+    /// the head atoms of the first rule that may be new: not those that stand in its body, and each once
+    pub news: [Atom; 4],
+    pub new_count: usize,
     pub constants: [u16; 80],
     pub kind: [u8; 128],
 }
@@ -38,9 +41,17 @@ impl<'a> Pair<'a> {
             second,
             second_body: second.body,
             second_head: second.head,
+            news: [Atom::default(); 4],
+            new_count: 0,
             constants: [0; 80],
             kind: [CONSTANT; 128],
         };
+        for atom in &first.head[..first.heads] {
+            if !first.body[..first.bodies].contains(atom) && !pair.news[..pair.new_count].contains(atom) {
+                pair.news[pair.new_count] = *atom;
+                pair.new_count += 1;
+            }
+        }
         let symbols = pair.symbols_of_second();
         for atom in pair.second_body[..second.bodies].iter_mut().chain(&mut pair.second_head[..second.heads]) {
             atom.terms = atom.terms.map(|t| symbols[t as usize & 127]);

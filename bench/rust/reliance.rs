@@ -15,7 +15,8 @@
 //!   and holds as long as they are old, whatever becomes equal: one of them has to be new. If it uses none, nothing
 //!   helps. The ways are tried one by one, and an atom that was tried as new is then kept old.
 //! If the second rule's match is satisfied, nothing helps: all its body atoms are facts, be they old or new.
-//! A new atom that is some head atom already need not be tried as another: that would only make more equal.
+//! A new atom that is some head atom already need not be tried as another: that would only make more equal. More
+//! generally a way is left out if it is a special case of another way (`Classes::way`).
 //! Every description is reached, or dropped for a reason that holds of it.
 
 use crate::classes::{Classes, Pair, ANY, NULL_OF_FIRST, SECOND};
@@ -23,7 +24,7 @@ use crate::hom::{satisfied, Facts};
 use crate::literal::{shows_reliance, Assignment, Fact, Witness, NULL};
 use crate::rule::{bits, Atom, Rule, CONSTANTS, FILLER};
 
-/// what is decided of a body atom of the second rule, if it is not the number of a head atom of the first
+/// what is decided of a body atom of the second rule, if it is not which of `Pair::news` it becomes
 pub const SOFT: u8 = 8;
 pub const FIRM: u8 = 9;
 
@@ -80,7 +81,7 @@ impl Search<'_> {
     }
 
     fn heads(&self) -> &[Atom] {
-        &self.pair.first.head[..self.pair.first.heads]
+        &self.pair.news[..self.pair.new_count]
     }
 
     fn count_ways(&self, classes: &Classes, at: usize) -> usize {
@@ -89,7 +90,7 @@ impl Search<'_> {
 
     /// tries each head atom for the body atom
     fn make_new(&mut self, state: &State, at: usize) -> bool {
-        (0..self.pair.first.heads).any(|head| {
+        (0..self.pair.new_count).any(|head| {
             let way = state.classes.way(&self.pair.second_body[at], self.heads(), head, &self.pair.kind);
             let Some(classes) = way else { return false };
             let mut choice = state.choice;

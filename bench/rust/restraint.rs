@@ -102,7 +102,7 @@ impl Search<'_> {
     }
 
     fn heads(&self) -> &[Atom] {
-        &self.pair.first.head[..self.pair.first.heads]
+        &self.pair.news[..self.pair.new_count]
     }
 
     fn count_ways(&self, classes: &Classes, at: usize) -> usize {
@@ -111,7 +111,7 @@ impl Search<'_> {
 
     /// tries each head atom of the first rule for the atom of k
     fn make_new(&mut self, state: &State, at: usize) -> bool {
-        (0..self.pair.first.heads).any(|head| {
+        (0..self.pair.new_count).any(|head| {
             let way = state.classes.way(&self.other_head[at], self.heads(), head, &self.pair.kind);
             let Some(classes) = way else { return false };
             let mut choice = state.choice;
