@@ -3,7 +3,7 @@
 
 use crate::draft::{draft, Draft};
 
-const RULES: [&str; 56] = [
+const RULES: [&str; 62] = [
     // heads of new nulls only: cycles, paths, stars and cliques that a body of the same predicate may or may not fit into
     "s(a) > p(a,b) p(b,c) p(c,d) p(d,a)",
     "s(a) > p(b,c) p(c,d) p(d,e) p(e,b)",
@@ -67,6 +67,13 @@ const RULES: [&str; 56] = [
     // a far match that only exists once several values are nulls of the other rule
     "q(a,b,c,d) q(b,c,d,a) p(a,c) p(b,d) > q(c,d,a,b) p(c,a) p(d,b)",
     "t(a) > q(b,c,d,e) q(c,d,e,b) p(b,d) p(c,e)",
+    // three pairs not thought up: rules were changed at random, and what took longer was kept
+    "p(b,l,l) p(d,b,i) p(c,i,0) p(f,a,d) p(i,d,j) p(e,c,b) > p(h,i,h) p(h,a,h) p(h,b,h) p(h,l,h)",
+    "p(b,k,g) p(d,j,i) p(g,e,i) p(i,0,c) p(a,f,b) p(h,j,d) > p(l,k,d) p(l,j,h) p(l,j,h) p(l,j,d)",
+    "p(k,l) p(g,b) p(i,g) p(l,k) p(a,g) p(0,g) > p(h,j) p(h,1) p(h,f) p(h,d)",
+    "p(b,g) p(d,i) p(c,g) p(b,a) p(j,d) p(c,i) > p(k,e) p(k,h) p(k,g) p(h,f)",
+    "q(e,d,g) q(j,e,g) p(d,g,a) p(j,g,h) p(l,g,i) p(k,g,b) > p(b,g,k) p(i,g,l) p(b,g,h)",
+    "q(e,d,l) q(c,g,l) q(l,g,l) q(e,g,k) q(c,e,l) > p(f,i,b) q(i,i,g) q(i,i,g) q(i,i,g)",
 ];
 
 pub fn rules() -> Vec<Draft> {
