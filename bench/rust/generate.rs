@@ -46,7 +46,7 @@ pub fn style(name: &str) -> Option<Style> {
         heads: (1, 1),
         arity: (1, 3),
         predicates: 3,
-        universals: (1, 3),
+        universals: (1, 2),
         existentials: (0, 2),
         constants: 5,
         open: 50,
