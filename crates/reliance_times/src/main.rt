@@ -1,13 +1,19 @@
-//! Answers both questions for every two rules of the volume on standard input; given a number of rounds, with the time of each.
+//! Asks of every two rules of the volume on standard input whether the second positively relies on the first, and
+//! whether the first restrains the second, and prints the answers, one to a line. Given a number of rounds, asks each
+//! so often and prints the time too.
 #![tactic(auto)]
 
-use reliances::{Kind, Sheet, ask};
-use rules::Rule;
+mod asked;
+mod rounds;
+
+use asked::Asked;
+use reliances::Kind;
+use rounds::read_rounds;
 use std::alloc::Global;
-use std::io::Read;
-use std::time::Instant;
-use std::io;
-use volumes::RuleVolume;
+use std::io::{self, Read};
+use std::num::NonZeroU32;
+use std::time::Clock;
+use volumes::{NumberedRule, RuleVolume, check_rules};
 
 /// Longer input is cut here.
 const MOST_BYTES: u64 = 65536;
@@ -18,31 +24,75 @@ fn read_volume(input: impl Read + Drop, heap: Global) -> io::Result<Vec<u8>> {
     Ok(bytes)
 }
 
-fn repeat(rounds: u32, kind: Kind, first: &Rule, second: &Rule) -> bool {
-    let mut sheet = Sheet::BLANK;
-    let mut last = false;
-    for _ in 0..rounds {
-        last = ask(kind, first, second, &mut sheet);
+/// Prints a line for the question, with the time where rounds are given.
+fn print_line<R: Print + Clock>(
+    rt: &R,
+    asked: &Asked,
+    rounds: Option<NonZeroU32>,
+) -> io::Result<()> {
+    let (answer, nanoseconds) = asked.answer(rt, rounds.unwrap_or(NonZeroU32::MIN))?;
+    if rounds.is_some() {
+        println!(rt; "{asked} {answer} {nanoseconds}")
+    } else {
+        println!(rt; "{asked} {answer}")
     }
-    last
+}
+
+/// Prints both lines for two rules.
+fn print_pair<R: Print + Clock>(
+    rt: &R,
+    first: &NumberedRule,
+    second: &NumberedRule,
+    rounds: Option<NonZeroU32>,
+) -> io::Result<()> {
+    for kind in [Kind::Positive, Kind::Restraint] {
+        let asked = Asked {
+            kind,
+            first,
+            second,
+        };
+        print_line(rt, &asked, rounds)?;
+    }
+    Ok(())
+}
+
+/// Prints the lines for a first rule and every second one.
+fn print_lines<R: Print + Clock>(
+    rt: &R,
+    volume: &RuleVolume,
+    first: &NumberedRule,
+    rounds: Option<NonZeroU32>,
+) -> io::Result<()> {
+    for index in 0..volume.count() {
+        let Some(second) = volume.rule(index) else {
+            break;
+        };
+        print_pair(rt, first, &second, rounds)?;
+    }
+    Ok(())
+}
+
+/// Prints the lines for every first rule and every second one.
+fn print_all<R: Print + Clock>(
+    rt: &R,
+    volume: &RuleVolume,
+    rounds: Option<NonZeroU32>,
+) -> io::Result<()> {
+    for index in 0..volume.count() {
+        let Some(first) = volume.rule(index) else {
+            break;
+        };
+        print_lines(rt, volume, &first, rounds)?;
+    }
+    Ok(())
 }
 
 fn main(rt: HostRuntime) -> io::Result<()> {
+    let rounds = read_rounds(&rt)?;
     let bytes = read_volume(rt.stdin(), rt.alloc())?;
-    let volume = RuleVolume::take_up(bytes.as_slice());
-    let rounds = 64u32;
-    for a in 0..volume.count() {
-        for b in 0..volume.count() {
-            let Some(first) = volume.rule(a) else { continue; };
-            let Some(second) = volume.rule(b) else { continue; };
-            for kind in [Kind::Positive, Kind::Restraint] {
-                let name = match kind { Kind::Positive => "P", Kind::Restraint => "R" };
-                let start = Instant::now(&rt)?;
-                let yes = repeat(rounds, kind, &first.rule, &second.rule);
-                let time = start.elapsed(&rt)?;
-                println!(rt; "{} {} {} {} {}", first.number, second.number, name, u8::from(yes), time.as_nanos() / 64)?;
-            }
-        }
+    let bytes = bytes.as_slice();
+    match check_rules(bytes) {
+        Ok(_) => print_all(&rt, &RuleVolume::take_up(bytes), rounds),
+        Err(fault) => println!(rt; "{fault}"),
     }
-    Ok(())
 }
