@@ -28,6 +28,23 @@ use crate::rule::{bits, Atom, Rule, CONSTANTS, FILLER};
 pub const SOFT: u8 = 8;
 pub const FIRM: u8 = 9;
 
+/// of atoms that have to be new, the one that the fewest head atoms can become; an error where one can be none, or is to stay old
+pub fn fewest_ways(places: impl Iterator<Item = usize>, choice: &[u8], ways: impl Fn(usize) -> usize) -> Result<Option<usize>, ()> {
+    let mut best = None;
+    let mut fewest = 5;
+    for at in places {
+        let count = ways(at);
+        if count == 0 || choice[at] == FIRM {
+            return Err(());
+        }
+        if count < fewest {
+            fewest = count;
+            best = Some(at);
+        }
+    }
+    Ok(best)
+}
+
 #[derive(Clone, Copy)]
 struct State {
     classes: Classes,
@@ -161,22 +178,8 @@ impl Search<'_> {
 
     /// the old atom with a new null that the fewest head atoms can become; an error where one can be none
     fn most_forced(&self, state: &State) -> Result<Option<usize>, ()> {
-        let mut best = None;
-        let mut fewest = 5;
-        for at in 0..self.pair.second.bodies {
-            if state.choice[at] < SOFT || !has_new_null(&self.pair, &state.classes, &self.pair.second_body[at]) {
-                continue;
-            }
-            let count = self.count_ways(&state.classes, at);
-            if count == 0 || state.choice[at] == FIRM {
-                return Err(());
-            }
-            if count < fewest {
-                fewest = count;
-                best = Some(at);
-            }
-        }
-        Ok(best)
+        let forced = |&at: &usize| state.choice[at] >= SOFT && has_new_null(&self.pair, &state.classes, &self.pair.second_body[at]);
+        fewest_ways((0..self.pair.second.bodies).filter(forced), &state.choice, |at| self.count_ways(&state.classes, at))
     }
 
     fn show(&mut self, classes: &Classes, facts: &Facts, old: u32) -> bool {

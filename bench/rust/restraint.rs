@@ -32,7 +32,7 @@
 use crate::classes::{Classes, Pair, NULL_OF_SECOND, OF_SECOND, OTHER, SECOND};
 use crate::hom::{find_piece, may_become, satisfied, Facts, Found};
 use crate::literal::{shows_restraint, Witness};
-use crate::reliance::{has_new_null, plain_fact, plain_value, plain_values, FIRM, SOFT};
+use crate::reliance::{fewest_ways, has_new_null, plain_fact, plain_value, plain_values, FIRM, SOFT};
 use crate::rule::{bits, Atom, Rule};
 
 #[derive(Clone, Copy)]
@@ -177,22 +177,8 @@ impl Search<'_> {
 
     /// the old atom with a null of the first rule that the fewest head atoms can become; an error where one can be none
     fn most_forced(&self, state: &State) -> Result<Option<usize>, ()> {
-        let mut best = None;
-        let mut fewest = 5;
-        for at in bits(state.piece as u32) {
-            if state.choice[at] < SOFT || !has_new_null(&self.pair, &state.classes, &self.other_head[at]) {
-                continue;
-            }
-            let count = self.count_ways(&state.classes, at);
-            if count == 0 || state.choice[at] == FIRM {
-                return Err(());
-            }
-            if count < fewest {
-                fewest = count;
-                best = Some(at);
-            }
-        }
-        Ok(best)
+        let forced = |&at: &usize| state.choice[at] >= SOFT && has_new_null(&self.pair, &state.classes, &self.other_head[at]);
+        fewest_ways(bits(state.piece as u32).filter(forced), &state.choice, |at| self.count_ways(&state.classes, at))
     }
 
     fn later(&self, state: &State) -> Later {
