@@ -7,6 +7,7 @@ use Rattle.rules.specs.declared.Term.{Term}
 use Rattle.rules.specs.Logic.{In, Each, Formula, Implication, Universal, Existential}
 use Rattle.rules.specs.Matches.{Assignment, under, Stands, Satisfied}
 use Rattle.rules.specs.Reliances.{Alternative}
+use Rattle.rules.proofs.Membership.{false_from}
 use Rattle.matches.specs.Lists.{Spares, HasAlternative}
 use Rattle.matches.specs.Matching.{same, stands, stands_in, Slots, bound, filled, solve, sparing, matches?, spared?, alternative?, agrees?, chosen?}
 use Rattle.matches.proofs.Basics.{in_map, from_map, in_terms, from_terms, decides_stands, decides_same, decides_stands_in}
@@ -25,11 +26,7 @@ sparing_from t x a rest false (inl e) = inl (e, refl)
 sparing_from t x a rest false (inr i) = inr i
 
 stands_false : (t : Term) (ts : List Term) → (In t ts → ⊥) → stands t ts ≡ false
-stands_false t ts n = at (stands t ts) (decides_stands t ts)
-  where
-    at : (b : Bool) → Decides b (In t ts) → b ≡ false
-    at true d = absurd (n (d.0 refl))
-    at false d = refl
+stands_false t ts n = false_from (stands t ts) (decides_stands t ts) n
 
 pub in_sparing : (t : Term) (x : Formula) (S : List Formula) → In x S → (In t x.terms → ⊥) → In x (sparing t S)
 in_sparing t x [] i n = i

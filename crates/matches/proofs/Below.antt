@@ -24,7 +24,7 @@ head_kept e x y rest true q (inl p) = inl (p, q)
 head_kept e x y rest true q (inr j) = inr j
 head_kept e x y rest false q i = inr i
 
-pub kept_passes : {A : Type 0} (e : A → Bool) (x : A) (xs : List A) → In x (filter e xs) → e x ≡ true
+kept_passes : {A : Type 0} (e : A → Bool) (x : A) (xs : List A) → In x (filter e xs) → e x ≡ true
 kept_passes e x [] i = absurd i
 kept_passes e x (y ∷ ys) i = ⊎_elim (λ p. ap e p.0 ∙ p.1) (kept_passes e x ys) (head_kept e x y (filter e ys) (e y) refl i)
 

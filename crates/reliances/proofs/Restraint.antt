@@ -11,7 +11,7 @@ use Rattle.rules.specs.Logic.{In, Each, Formula, Implication, terms_of, Universa
 use Rattle.rules.specs.Bounds.{some}
 use Rattle.rules.specs.Matches.{Assignment, value, under, Ground, IsNull, Stands, Facts, Applies, result}
 use Rattle.rules.specs.Reliances.{Alternative, ShowsRestraint, Restraint}
-use Rattle.rules.proofs.Membership.{in_left, in_right, in_either}
+use Rattle.rules.proofs.Membership.{false_from, in_left, in_right, in_either}
 use Rattle.matches.specs.Lists.{look, Sized, Sizes}
 use Rattle.matches.specs.Matching.{same, stands_in}
 use Rattle.matches.proofs.Basics.{in_map, from_map, in_terms, from_terms, cons_path, formula_path, under_same, either, decides_same, decides_some, decides_stands_in}
@@ -44,10 +44,6 @@ three_third f h k v =
     let back : 24 + v - 24 ≡ v = omega arith in
     cond-false (ltb (24 + v) 12) (f (24 + v)) (cond (ltb (24 + v) 24) (h (24 + v - 12)) (k (24 + v - 24))) (le-ltb (24 + v) 12 le)
     ∙ cond-false (ltb (24 + v) 24) (h (24 + v - 12)) (k (24 + v - 24)) (le-ltb (24 + v) 24 le2) ∙ ap k back
-
-false_from : {P : Type 0} (b : Bool) → Decides b P → (P → ⊥) → b ≡ false
-false_from true d n = absurd (n (d.0 refl))
-false_from false d n = refl
 
 or_false : (b c : Bool) → (b || c) ≡ false → (b ≡ false) × (c ≡ false)
 or_false true c e = absurd (false≢true (sym e))

@@ -131,7 +131,7 @@ impl Reading for Other<'_> {
 }
 
 // The facts of a node: what the second rule is applied on and gives, and what is there besides.
-// Both steps test that few are left old; a type that kept it would be made there only to be taken apart.
+// Some atom is new where it is called, so few are left old; a type that kept it would be made there only to be taken apart.
 fn later(asked: &Question<Restrains>, sigma: &[Term; 36], old: &[Atom]) -> ArrayVec<Atom, 19>
     requires { length old.now ≤ 3 }
     ensures { result.items ≡ laid_later asked.now.first.now asked.now.second.now sigma.now old.now }

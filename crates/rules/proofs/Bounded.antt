@@ -1,6 +1,6 @@
 -- The tests of a rule's parts decide what they are named for.
 -- Assumes nothing.
-use Rattle.std.proofs.Common.{◌≡◌, ℕ, ◌≤◌, Bool, true, false, leb, List, [], ◌∷◌, map, Decides, refl, inl, inr, ⊎_elim, arith}
+use Rattle.std.proofs.Common.{◌≡◌, ℕ, ◌≤◌, true, false, leb, List, [], ◌∷◌, map, Decides, refl, inl, inr, ⊎_elim, arith}
 use Rattle.std.proofs.lemmas.Bool.Decides.{Decides-and, Decides-like}
 use Rattle.std.proofs.lemmas.Bool.{leb-true, le-leb}
 use Rattle.rules.specs.declared.Term.{Term}
@@ -9,7 +9,7 @@ use Rattle.rules.specs.declared.Atom.{Atom}
 use Rattle.rules.specs.declared.parts.RuleParts.{RuleParts}
 use Rattle.rules.specs.Logic.{In, Each, formula_of, implication_of, terms_of}
 use Rattle.rules.specs.Bounds.{every, Plain, plain?, RuleAtom, rule_atom?, MakesRule, makes_rule?, body_of, head_of, universal?, existential?, existentials}
-use Rattle.rules.proofs.Membership.{decides_false, decides_every, in_either, stands_decided, existential_decided}
+use Rattle.rules.proofs.Membership.{decides_false, false_from, decides_every, in_either, stands_decided, existential_decided}
 
 pub decides_leb : (a b : ℕ) → Decides (leb a b) (a ≤ b)
 decides_leb a b = (leb-true a b, le-leb a b)
@@ -55,13 +55,9 @@ none_past v l (x ∷ xs) each i =
     (none_past v l xs (λ y k. each y (inr k)))
     (in_either (Variable v) (formula_of x).terms (terms_of (map formula_of xs)) i)
 
-untold : (b : Bool) {P : Type 0} → Decides b P → (P → ⊥) → b ≡ false
-untold true d none = absurd (none (d.0 refl))
-untold false d none = refl
-
 module _ (p : RuleParts) (made : makes_rule? p ≡ true) (v : ℕ) (past : 12 ≤ v) where
   pub universal_past : universal? (implication_of p) v ≡ false
-  universal_past = untold (universal? (implication_of p) v) (stands_decided v (implication_of p).body) (none_past v past (body_of p) ((makes_rule_decided p).0 made).body)
+  universal_past = false_from (universal? (implication_of p) v) (stands_decided v (implication_of p).body) (none_past v past (body_of p) ((makes_rule_decided p).0 made).body)
 
   pub existential_past : existential? (implication_of p) v ≡ false
-  existential_past = untold (existential? (implication_of p) v) (existential_decided (implication_of p) v) (λ x. none_past v past (head_of p) ((makes_rule_decided p).0 made).head x.0)
+  existential_past = false_from (existential? (implication_of p) v) (existential_decided (implication_of p) v) (λ x. none_past v past (head_of p) ((makes_rule_decided p).0 made).head x.0)

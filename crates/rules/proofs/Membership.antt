@@ -1,6 +1,6 @@
 -- What stands in a list, and tests of lists that decide it.
 -- Assumes nothing.
-use Rattle.std.proofs.Common.{◌≡◌, ℕ, Bool, false, ◌&&◌, ◌||◌, eqb, ◌⊎◌, List, [], ◌∷◌, ◌++◌, map, Decides, sym, refl, ap, subst, inl, inr, ⊎_elim, arith}
+use Rattle.std.proofs.Common.{◌≡◌, ℕ, Bool, true, false, ◌&&◌, ◌||◌, eqb, ◌⊎◌, List, [], ◌∷◌, ◌++◌, map, Decides, sym, refl, ap, subst, inl, inr, ⊎_elim, arith}
 use Rattle.std.proofs.lemmas.Bool.Decides.{Decides-eqb, Decides-and, Decides-or, Decides-not, Decides-like}
 use Rattle.std.proofs.lemmas.Bool.{false≢true}
 use Rattle.rules.specs.declared.Term.{Term}
@@ -25,6 +25,10 @@ in_either x (z ∷ zs) ys (inr i) = ⊎_elim (λ j. inl (inr j)) (λ j. inr j) (
 
 pub decides_false : {P : Type 0} → (P → ⊥) → Decides false P
 decides_false f = (λ e. absurd (false≢true e), λ p. absurd (f p))
+
+pub false_from : {P : Type 0} (b : Bool) → Decides b P → (P → ⊥) → b ≡ false
+false_from true d n = absurd (n (d.0 refl))
+false_from false d n = refl
 
 pub decides_every : {A : Type 0} (p : A → Bool) (P : A → Type 0) (d : (x : A) → Decides (p x) (P x)) (xs : List A)
     → Decides (every p xs) (Each P xs)
