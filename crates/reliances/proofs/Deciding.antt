@@ -355,7 +355,7 @@ module _ (A B : Implication) (ba : Bounded A) (bb : Bounded B) (sa : Sizes A) (s
         flexes = z.1;
         member = z.2;
         reached = restraint.reach_moved A B ba bb rigid is_rigid σ old [] z.0 w.0 z.1 s.given r;
-        followed = z.3;
+        followed = z.4;
         falls = restraint.count_falls A B ba bb rigid is_rigid σ z.0 w.0 z.1 s.given
             (restraint.null_slot A B ba bb rigid is_rigid σ old [] r z.0 (in_facts k (later_of A B σ old) s.present (Null z.0) z.2));
       }

@@ -4,6 +4,7 @@ pub mod Slots
 pub mod Reaching
 pub mod Positive
 pub mod Restraint
+pub mod LooseNulls
 pub mod Deciding
 pub mod Marked
 pub mod Rigid

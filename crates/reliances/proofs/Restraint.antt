@@ -1,7 +1,7 @@
 -- The search for restraint: a witness that follows it to a node follows it to one of the children, also where the null of a
 -- slot is made one that the application gave; and what is open at the end, with no alternative too early, shows the restraint.
 -- Assumes nothing.
-use Rattle.std.proofs.Common.{◌≡◌, ℕ, zero, suc, ◌+◌, ◌-◌, ◌<◌, ◌≤◌, Bool, true, false, cond, ◌&&◌, ◌||◌, ltb, ◌⊎◌, List, [], ◌∷◌, ◌++◌, map, length, Decides, sym, refl, ap, ◌∙◌, subst, inl, inr, ⊎_elim, zero-add, arith, Some}
+use Rattle.std.proofs.Common.{◌≡◌, ℕ, zero, suc, ◌+◌, ◌-◌, ◌<◌, ◌≤◌, Bool, true, false, cond, ◌&&◌, ◌||◌, ltb, ◌⊎◌, List, [], ◌∷◌, ◌++◌, map, length, sym, refl, ap, ◌∙◌, subst, inl, inr, ⊎_elim, zero-add, arith, Some}
 use Rattle.std.proofs.lemmas.List.{length-map}
 use Rattle.std.proofs.lemmas.Bool.Decides.{Decides-and}
 use Rattle.std.proofs.lemmas.Bool.{cond-true, cond-false, lt-ltb, le-ltb, cases_Bool, cases_lt, both_ways, false≢true, not_from_false, not_from_true}
@@ -662,13 +662,16 @@ module _ (A B : Implication) (ba : Bounded A) (bb : Bounded B) (rigid : ℕ → 
             (decides_some stray? Stray
             (λ t. Decides-and (flexible rigid t) (same (hat θ t) (θ (12 + v))) (λ e. e, λ e. e) (decides_same (hat θ t) (θ (12 + v)))) (terms_of T)))
 
-        refine_at : (r : ℕ) × (rigid r ≡ false) × Stands (Null r) T × Followed A B rigid (moved r v σ) old
+        -- it is fresh where B is applied, so the flexible one stands in no fact there
+        refine_at : (r : ℕ) × (rigid r ≡ false) × Stands (Null r) T × (Stands (Null r) (C σ old) → ⊥) × Followed A B rigid (moved r v σ) old
         refine_at =
             let z = is_flexible rigid stray.0 stray.2.0 in
-            let r = z.0 in (
+            let r = z.0 in
+            let spared : hat θ (Null r) ≡ h v = ap (hat θ) (sym z.1) ∙ stray.2.1 ∙ second_b v given in (
               r,
               z.2,
               subst (λ t. Stands t T) z.1 stray.1,
+              λ i. w.shows.second.fresh.new v given (subst (λ t. Stands t F) spared (stands_lifts θ (C σ old) F into_before (Null r) i)),
               record {
                 facts = F;
                 later = H;
@@ -703,12 +706,12 @@ module _ (A B : Implication) (ba : Bounded A) (bb : Bounded B) (rigid : ℕ → 
   pub follow_open : (σ : Subst) (old : List Formula) → Each (λ o. In o (shifted B)) old → Followed A B rigid σ old → Open A B σ old
   follow_open σ old from w = open_at σ old w from
 
-  -- where there is an alternative too early, some null in it is one that the application gave
+  -- where there is an alternative too early, some null in it is one that the application gave, and stands in no fact before
   pub follow_refine : (σ : Subst) (old : List Formula) → Each (λ o. In o (shifted B)) old → Followed A B rigid σ old
       → (k : Assignment) (v : ℕ) → ((u : ℕ) → Universal B u → k u ≡ look (part σ 12) u)
       → Each (λ a. In (under k a) (later_of A B σ old)) B.head → Existential B v
       → (Stands (Null (12 + v)) (map (under k) B.head) → ⊥)
-      → (r : ℕ) × (rigid r ≡ false) × Stands (Null r) (map (under k) B.head) × Followed A B rigid (moved r v σ) old
+      → (r : ℕ) × (rigid r ≡ false) × Stands (Null r) (map (under k) B.head) × (Stands (Null r) (before_of B σ) → ⊥) × Followed A B rigid (moved r v σ) old
   follow_refine σ old from w k v agrees present given absent = refine_at σ old w from k v agrees present given absent
 
 -- where no atom of B's head that is gone through has the predicate of an atom of A's head, A does not restrain B

@@ -1,28 +1,26 @@
 -- The end of a way of the search for a restraint: what it shows, and how alternatives that come too early are refined away.
 -- Assumes nothing.
-use Rattle.std.proofs.Common.{◌≡◌, ℕ, ◌+◌, ◌<◌, ◌≤◌, Bool, false, not, List, [], ◌++◌, map, length, take, sym, refl, ap, ◌∙◌, subst, ⊎_elim, arith}
+use Rattle.std.proofs.Common.{◌≡◌, ℕ, ◌+◌, ◌<◌, ◌≤◌, Bool, false, List, [], ◌++◌, map, length, sym, ap, ◌∙◌, subst, ⊎_elim, arith}
 use Rattle.std.proofs.lemmas.List.{length-map}
 use Rattle.rules.specs.declared.Term.{Term}
 use Rattle.rules.specs.declared.Term.TheVariants.{Variable, Null}
 use Rattle.rules.specs.declared.Atom.{Atom}
 use Rattle.rules.specs.declared.rule.Rule.{Rule}
-use Rattle.rules.specs.Logic.{In, Each, Formula, Implication, formula_of}
-use Rattle.rules.specs.Bounds.{some, body_of, flags, FlagsAre}
+use Rattle.rules.specs.Logic.{In, Each, Formula, Implication, formula_of, terms_of}
+use Rattle.rules.specs.Bounds.{body_of, flags, FlagsAre}
 use Rattle.rules.specs.Matches.{Ground, Assignment, Stands, value, under, result}
 use Rattle.rules.specs.Reliances.{Alternative, ShowsRestraint}
 use Rattle.rules.specs.Rules.{meaning}
-use Rattle.std.proofs.lemmas.Bool.{not_from_false, both_ways}
 use Rattle.rules.proofs.Membership.{in_right, in_either}
 use Rattle.matches.specs.Lists.{look, formulas, under_atom, Spares, Sizes}
-use Rattle.matches.specs.Matching.{stands}
-use Rattle.matches.proofs.Basics.{in_map, from_map, in_terms, from_terms, under_same, map_same, either, decides_stands}
+use Rattle.matches.proofs.Basics.{in_map, from_map, in_terms, from_terms, under_same, map_same}
 use Rattle.matches.proofs.Bounded.{Bounded, bounded, by_formula}
 use Rattle.reliances.specs.declared.sheet.Kind.TheVariants.{Restraint}
 use Rattle.reliances.specs.declared.sheet.Sheet.{Sheet}
-use Rattle.reliances.specs.Unification.{Subst, through, flexible, some_flexible?, rigid_both, part, wide, shift_var, other, moved, loose_count, before_of, later_of}
+use Rattle.reliances.specs.Unification.{Subst, through, rigid_both, part, wide, shift_var, other, moved, loose_count, before_of, later_of}
 use Rattle.reliances.specs.Following.{Small, Node}
 use Rattle.reliances.specs.Sheets.{first_list, second_list, later_facts, ShowsRestrained}
-use Rattle.reliances.specs.RestraintSearch.{shifted, Stuck, IsChoice, Open, IsFound}
+use Rattle.reliances.specs.RestraintSearch.{shifted, AreLoose, Stuck, Open, IsFound}
 use Rattle.reliances.specs.Searching.{Deserted}
 use Rattle.reliances.proofs.Slots.{look_ground, look_wide}
 use Rattle.reliances.proofs.Nodes.{small_body, under_small}
@@ -50,15 +48,9 @@ stands_present r k S present t i =
     let q = from_map (under k) p.0 r.head p.1 in
     in_terms t p.0 S (subst (λ x. In x S) (sym q.2) (present q.0 q.1)) p.2
 
--- where no flexible null stands in the formulas
-pub none_loose : (rigid : ℕ → Bool) (F : List Formula) → some_flexible? rigid F ≡ false → (r : ℕ) → rigid r ≡ false → Stands (Null r) F → ⊥
-none_loose rigid F e r flex i =
-    let p = from_terms (Null r) F i in
-    both_ways (not (rigid r)) (restraint.none_passes (flexible rigid) p.0.terms (restraint.none_passes (λ a. some (flexible rigid) a.terms) F e p.0 p.1) (Null r) p.2) (not_from_false (rigid r) flex)
-
--- the null of a slot cannot be made the one that the early alternative spares
-abbrev pub Refuted : Rule → Rule → List Bool → Subst → List Atom → ℕ → List Formula → Term → Type 0
-Refuted A B rigid σ old v F t = (r : ℕ) → t ≡ Null r → flags rigid r ≡ false → Stands (Null r) F → Deserted Restraint A B rigid (moved r v σ) old
+-- the null cannot be made the one that the early alternative spares
+abbrev pub Refuted : Rule → Rule → List Bool → Subst → List Atom → ℕ → ℕ → Type 0
+Refuted A B rigid σ old v r = Deserted Restraint A B rigid (moved r v σ) old
 
 module _ (A B : Rule) (rigid : List Bool) (is : FlagsAre rigid (rigid_both (meaning A) (meaning B))) (σ : Subst) (old : List Atom) where
   abbrev NodeHere : Subst → List Atom → Type 0
@@ -70,8 +62,8 @@ module _ (A B : Rule) (rigid : List Bool) (is : FlagsAre rigid (rigid_both (mean
   pub none_open : (rest : List Atom) → NodeHere σ rest → (OpenHere → ⊥) → Deserted Restraint A B rigid σ old
   none_open rest n shut w = shut (restraint.follow_open (meaning A) (meaning B) (bounded A) (bounded B) (flags rigid) is σ (formulas old) n.reached.old_from w)
 
-  -- an alternative too early that no flexible null can change rules the restraint out
-  pub none_stuck : (rest : List Atom) → NodeHere σ rest → Stuck (meaning B) (flags rigid) (look (part σ 12)) (later_of (meaning A) (meaning B) σ (formulas old)) → Deserted Restraint A B rigid σ old
+  -- an alternative too early in which no null is loose rules the restraint out
+  pub none_stuck : (rest : List Atom) → NodeHere σ rest → Stuck (meaning B) (flags rigid) (before_of (meaning B) σ) (look (part σ 12)) (later_of (meaning A) (meaning B) σ (formulas old)) → Deserted Restraint A B rigid σ old
   none_stuck rest n s w =
       let v = s.0 in
       let k = s.1 in
@@ -80,7 +72,7 @@ module _ (A B : Rule) (rigid : List Bool) (is : FlagsAre rigid (rigid_both (mean
       restraint.reach_null (meaning A) (meaning B) (bounded A) (bounded B) (flags rigid) is σ (formulas old) (formulas rest) n.reached v e.given in
       let z = restraint.follow_refine (meaning A) (meaning B) (bounded A) (bounded B) (flags rigid) is σ (formulas old) n.reached.old_from w k v e.agrees e.present e.given
       (λ i. e.absent (subst (λ t. Stands t (map (under k) (meaning B).head)) (sym kept) i)) in
-      s.3 z.0 z.1 z.2
+      s.3 z.0 (z.1, z.3) z.2
 
   -- where every atom is old, no witness follows
   pub none_new : (count : ℕ) → NodeHere σ [] → count ≡ length (shifted (meaning B)) → count ≤ length old → Deserted Restraint A B rigid σ old
@@ -155,16 +147,16 @@ module _ (A B : Rule) (rigid : List Bool) (is : FlagsAre rigid (rigid_both (mean
     }
 
   -- an alternative that comes too early
-  module _ (k : List Term) (S : List Formula) (v : ℕ) (values : List Term) (n : NodeHere σ []) (p : k ≡ part σ 12) (d : S ≡ later_of (meaning A) (meaning B) σ (formulas old))
-      (early : Spares (meaning B) (look k) S v (look values)) where
+  module _ (h : List Term) (S : List Formula) (v : ℕ) (k : Assignment) (n : NodeHere σ []) (p : h ≡ part σ 12) (d : S ≡ later_of (meaning A) (meaning B) σ (formulas old))
+      (early : Spares (meaning B) (look h) S v k) where
     abbrev T : List Formula
-    T = map (under (look values)) (meaning B).head
+    T = map (under k) (meaning B).head
 
     -- its flexible nulls stand in slots
     null_slot : (r : ℕ) → Stands (Null r) T → In (Null r) σ
     null_slot r i =
         restraint.null_slot (meaning A) (meaning B) (bounded A) (bounded B) (flags rigid) is σ (formulas old) [] n.reached r
-        (subst (Stands (Null r)) d (stands_present (meaning B) (look values) S early.present (Null r) i))
+        (subst (Stands (Null r)) d (stands_present (meaning B) k S early.present (Null r) i))
 
     pub falls : (r : ℕ) → flags rigid r ≡ false → Stands (Null r) T → loose_count (flags rigid) (moved r v σ) < loose_count (flags rigid) σ
     falls r e i = restraint.count_falls (meaning A) (meaning B) (bounded A) (bounded B) (flags rigid) is σ r v e early.given (null_slot r i)
@@ -177,24 +169,16 @@ module _ (A B : Rule) (rigid : List Bool) (is : FlagsAre rigid (rigid_both (mean
       small_rest = n.small_rest;
     }
 
-    -- once each of them was tried
-    pub all_refuted : (F : List Formula) → F ≡ T → Each (Refuted A B rigid σ old v F) σ → Deserted Restraint A B rigid σ old
-    all_refuted F e tried w =
+    -- once each loose null was tried
+    pub all_refuted : (rs : List ℕ) → AreLoose (flags rigid) (before_of (meaning B) σ) (terms_of T) rs → Each (Refuted A B rigid σ old v) rs → Deserted Restraint A B rigid σ old
+    all_refuted rs loose tried w =
         let z =
-        restraint.follow_refine (meaning A) (meaning B) (bounded A) (bounded B) (flags rigid) is σ (formulas old) n.reached.old_from w (look values) v
-        (λ u x. early.agrees u x ∙ ap (λ q. look q u) p) (λ a i. subst (In (under (look values) a)) d (early.present a i)) early.given absent
+        restraint.follow_refine (meaning A) (meaning B) (bounded A) (bounded B) (flags rigid) is σ (formulas old) n.reached.old_from w k v
+        (λ u x. early.agrees u x ∙ ap (λ q. look q u) p) (λ a i. subst (In (under k a)) d (early.present a i)) early.given absent
         in
-        tried (Null z.0) (null_slot z.0 z.2) z.0 refl z.1 (subst (Stands (Null z.0)) (sym e) z.2) z.3
+        tried z.0 (loose.complete z.0 (z.1, z.3) z.2) z.4
       where
         absent : Stands (Null (12 + v)) T → ⊥
         absent i =
             early.absent (subst (λ t. Stands t T)
             (sym (ap (λ q. look q v) p ∙ restraint.reach_null (meaning A) (meaning B) (bounded A) (bounded B) (flags rigid) is σ (formulas old) [] n.reached v early.given)) i)
-
-  -- a slot that is no choice needs no trying
-  pub no_choice : (v i : ℕ) (F : List Formula) (t : Term) → (IsChoice rigid (take i σ) F t → ⊥) → Each (Refuted A B rigid σ old v F) (take i σ) → Refuted A B rigid σ old v F t
-  no_choice v i F t no_way tried r e flex stand =
-      ⊎_elim
-      (λ j. tried t j r e flex stand)
-      (λ n. absurd (no_way (ap (flexible (flags rigid)) e ∙ not_from_false (flags rigid r) flex, n, subst (λ z. Stands z F) (sym e) stand)))
-      (either (stands t (take i σ)) (decides_stands t (take i σ)))

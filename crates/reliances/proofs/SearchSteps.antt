@@ -142,7 +142,7 @@ module _ (kind : Kind) (A B : Rule) (rigid : List Bool) (is : Flagged kind A B r
   searched_old false s t u old more heads b i e tried m same left = (none_follows old heads b i e tried (subst (Deserted kind A B rigid σ) m left.0), left.1 ∙ same)
 
 -- a list that is empty
-pub none_left : (xs : List Atom) (r : Bool) → r ≡ (length xs == 0) → r ≡ true → xs ≡ []
+pub none_left : {X : Type 0} (xs : List X) (r : Bool) → r ≡ (length xs == 0) → r ≡ true → xs ≡ []
 none_left [] r e p = refl
 none_left (x ∷ xs) r e p = let z = eqb-true (suc (length xs)) 0 (sym e ∙ p) in absurd (omega arith)
 

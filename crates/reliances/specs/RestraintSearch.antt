@@ -6,14 +6,14 @@ use Rattle.rules.specs.declared.Term.TheVariants.{Constant, Variable, Null}
 use Rattle.rules.specs.declared.Atom.{Atom}
 use Rattle.rules.specs.declared.rule.Rule.{Rule}
 use Rattle.rules.specs.Bounds.{some, body_of, head_of, flags}
-use Rattle.rules.specs.Logic.{In, Each, Formula, Implication, Existential}
+use Rattle.rules.specs.Logic.{In, Each, Formula, Implication, terms_of, Existential}
 use Rattle.rules.specs.Matches.{Stands, Assignment, value, under, Satisfied}
 use Rattle.rules.specs.Reliances.{Alternative, ShowsRestraint}
 use Rattle.matches.specs.Lists.{look, under_atom, Spares}
 use Rattle.reliances.specs.declared.sheet.Sheet.{Sheet}
-use Rattle.reliances.specs.declared.restraint_search.Early.{Early}
+use Rattle.reliances.specs.declared.early.Early.{Early}
 use Rattle.std.specs.List.{filter}
-use Rattle.reliances.specs.Unification.{Subst, existential_term?, through, flexible, part, wide, shift_formula, other, before_of, later_of}
+use Rattle.reliances.specs.Unification.{Subst, existential_term?, through, part, wide, shift_formula, other, before_of, later_of}
 use Rattle.reliances.specs.Following.{Good, slot, three}
 
 -- an existential variable of B stands in the formula
@@ -67,18 +67,24 @@ laid_later A B σ old = (laid_before B σ ++ map (under_atom (look (part σ 12))
 abbrev pub SomeSpared : List Bool → List Formula → Type 0
 SomeSpared rigid F = (r : ℕ) × (12 ≤ r) × (flags rigid r ≡ true) × (Stands (Null r) F → ⊥)
 
--- an alternative on S and the variable whose null it spares, or none where there is no alternative at all
-abbrev pub EarlyFound : Implication → Assignment → List Formula → Option Early → Type 0
-EarlyFound B h S (Some e) = Spares B h S e.spared (look e.values)
-EarlyFound B h S None = (k : Assignment) → Alternative B h S k → ⊥
+-- a null that can become one that the application of B gives: its slot is not rigid, and it stands in none of the facts C that B
+-- is applied on, in which the nulls of the application do not stand
+abbrev pub Loose : (ℕ → Bool) → List Formula → ℕ → Type 0
+Loose rigid C r = (rigid r ≡ false) × (Stands (Null r) C → ⊥)
 
--- an alternative on S spares a null that no flexible null in it can become
-abbrev pub Stuck : Implication → (ℕ → Bool) → Assignment → List Formula → Type 0
-Stuck B rigid h S = (v : ℕ) × (k : Assignment) × Spares B h S v k × ((r : ℕ) → rigid r ≡ false → Stands (Null r) (map (under k) B.head) → ⊥)
+-- rs are the loose nulls among the terms
+pub record AreLoose (rigid : ℕ → Bool) (C : List Formula) (ts : List Term) (rs : List ℕ) : Type 0 where
+  pub sound : Each (λ r. Loose rigid C r × In (Null r) ts) rs
+  pub complete : (r : ℕ) → Loose rigid C r → In (Null r) ts → In r rs
 
--- the term is a flexible null that stands in the formulas, and in no slot before
-abbrev pub IsChoice : List Bool → List Term → List Formula → Term → Type 0
-IsChoice rigid before F t = (flexible (flags rigid) t ≡ true) × (In t before → ⊥) × Stands t F
+-- an alternative on S with the variable whose null it spares and the loose nulls in it, or none where there is no alternative at all
+abbrev pub EarlyFound : Implication → (ℕ → Bool) → List Formula → Assignment → List Formula → Option Early → Type 0
+EarlyFound B rigid C h S (Some e) = (k : Assignment) × Spares B h S e.spared k × AreLoose rigid C (terms_of (map (under k) B.head)) e.nulls.items
+EarlyFound B rigid C h S None = (k : Assignment) → Alternative B h S k → ⊥
+
+-- an alternative on S in which no null is loose
+abbrev pub Stuck : Implication → (ℕ → Bool) → List Formula → Assignment → List Formula → Type 0
+Stuck B rigid C h S = (v : ℕ) × (k : Assignment) × Spares B h S v k × ((r : ℕ) → Loose rigid C r → Stands (Null r) (map (under k) B.head) → ⊥)
 
 -- the list holds what the alternative gives the variables
 abbrev pub OtherIs : List Bool → Subst → List Term → Type 0

@@ -29,10 +29,6 @@ flexible rigid (Constant c) = false
 flexible rigid (Variable v) = false
 flexible rigid (Null r) = not (rigid r)
 
--- such a null stands in one of the formulas
-abbrev pub some_flexible? : (ℕ → Bool) → List Formula → Bool
-some_flexible? rigid = some (λ a. some (flexible rigid) a.terms)
-
 -- the substitution that makes two terms equal, or none
 abbrev pub unify : (ℕ → Bool) → Subst → Term → Term → Option Subst
 unify rigid σ s t =

@@ -4,6 +4,7 @@
 ghost use Rattle.reliances.specs.Marked.{MarkedPairs};
 
 mod asking;
+mod early;
 mod lists;
 mod reliance_search;
 mod restraint_search;

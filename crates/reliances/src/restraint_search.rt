@@ -1,18 +1,18 @@
 // The nodes of the search for a restraint, and the end of a way, where alternatives that come too early are refined away.
-ghost use Rattle.std.specs.Prelude.{◌≡◌, ◌<◌, ◌≤◌, [], ◌++◌, true, map, length, Decides};
-ghost use Rattle.rules.specs.Logic.{In};
-ghost use Rattle.rules.specs.Bounds.{flags};
+ghost use Rattle.std.specs.Prelude.{◌≡◌, ◌<◌, ◌≤◌, [], ◌++◌, true, map, take, length, Decides};
+ghost use Rattle.rules.specs.Bounds.{body_of, flags};
 ghost use Rattle.reliances.specs.Unification.{part};
 ghost use Rattle.rules.specs.Rules.{meaning};
 ghost use Rattle.matches.specs.Lists.{look, formulas, under_atom};
 ghost use Rattle.reliances.specs.declared.sheet.Kind.TheVariants.{Restraint};
-ghost use Rattle.reliances.specs.RestraintSearch.{shift_by, shift_atom, laid_later, SomeSpared, EarlyFound, Stuck, IsChoice, OtherIs, Open, IsFound};
+ghost use Rattle.reliances.specs.RestraintSearch.{shift_by, shift_atom, laid_later, SomeSpared, EarlyFound, Stuck, OtherIs, Open, IsFound};
 ghost use Rattle.reliances.specs.Searching.{OnWay, Seen, Searched};
 
+use crate::early::{Early, Looseness, find_early};
 use crate::lists::{Reading, Under, push_each};
 use crate::search::{Question, Relation, Sight, Test, Way, counted, pick};
 use crate::substitution::{first_slots, has_rigid, second_slots, wide_slots};
-use crate::unifier::{has_flexible, is_flexible, replace, slot_value};
+use crate::unifier::{replace, slot_value};
 use crate::{Kind, Sheet};
 use arrayvec::ArrayVec;
 use matches::{Trigger, atom_under, sized, stands_in};
@@ -75,13 +75,6 @@ impl Test for Freedom<'_> {
             && !first.is_satisfied()
             && !second.has_alternative()
     }
-}
-
-/// An alternative that comes too early, and the variable whose null it spares.
-#[derive(Clone, Copy)]
-pub(crate) struct Early {
-    pub spared: u16,
-    pub values: [Term; 12],
 }
 
 // An existential variable v is read by an alternative from slot 24 + v.
@@ -184,47 +177,32 @@ fn is_open(asked: &Question<Restrains>, way: &Way, list: &[Atom]) -> bool
     some_spared(&asked.rigid, &other)
 }
 
-// Some alternative on the facts, or none where there is none at all.
-fn find_early(trigger: Trigger) -> Option<Early>
-    ensures { let t = trigger.entry in EarlyFound (meaning t.rule.now) (look t.values.now) (formulas t.facts.now) result }
+// Where an alternative comes too early: the facts of the node, of which the second rule's body is the first.
+fn find_here(asked: &Question<Restrains>, sigma: &[Term; 36], facts: &[Atom]) -> Option<Early>
+    requires { length (body_of asked.now.second.now.parts) ≤ length facts.now }
+    ensures { let B = asked.now.second.now in EarlyFound (meaning B) (flags asked.now.rigid) (formulas (take (length (body_of B.parts)) facts.now)) (look (part sigma.now 12)) (formulas facts.now) result }
 {
-    // A loop, and no find_map: its proof did not close, since std has no lemma on what that finds.
-    for spared in 0..12 {
-        if let Some(values) = trigger.find_alternative(spared) {
-            return Some(Early { spared, values });
-        }
-    }
-    None
-}
-
-// Whether an alternative comes too early in which no null can become the one that it spares: then none of them all can be
-// kept from coming too early.
-fn is_stuck(asked: &Question<Restrains>, sigma: &[Term; 36], facts: &[Atom]) -> bool
-    ensures { result ≡ true → Stuck (meaning asked.now.second.now) (flags asked.now.rigid) (look (part sigma.now 12)) (formulas facts.now) }
-{
-    let Some(early) = find_early(Trigger {
+    let second = Trigger {
         rule: asked.second,
         values: second_slots(sigma),
         facts,
-    }) else {
-        return false;
     };
-    let mut given: ArrayVec<Atom, 4> = ArrayVec::new();
-    push_each(asked.second.head(), &Under(&early.values), &mut given);
-    !has_flexible(&given, &asked.rigid)
+    let looseness = Looseness {
+        before: &facts[..asked.second.body().len()],
+        rigid: &asked.rigid,
+    };
+    find_early(second, looseness)
 }
 
-fn is_slot(t: Term, slots: &[Term]) -> bool
-    ensures { Decides result (In t slots.now) }
+// Whether an alternative comes too early in which no null is loose: then none of them all can be kept from coming too early.
+fn is_stuck(asked: &Question<Restrains>, sigma: &[Term; 36], facts: &[Atom]) -> bool
+    requires { length (body_of asked.now.second.now.parts) ≤ length facts.now }
+    ensures { let B = asked.now.second.now in result ≡ true → Stuck (meaning B) (flags asked.now.rigid) (formulas (take (length (body_of B.parts)) facts.now)) (look (part sigma.now 12)) (formulas facts.now) }
 {
-    slots.contains(&t)
-}
-
-// Whether the term of a slot is one to refine on: a flexible null, in the atoms, and in no slot before.
-fn is_choice(t: Term, before: &[Term], rigid: &[bool], given: &[Atom]) -> bool
-    ensures { Decides result (IsChoice rigid.now before.now (formulas given.now) t) }
-{
-    is_flexible(t, rigid) && !is_slot(t, before) && stands_in(t, given)
+    match find_here(asked, sigma, facts) {
+        Some(early) => early.nulls.is_empty(),
+        None => false,
+    }
 }
 
 // What the alternative gives the variables of the second rule.
@@ -265,42 +243,32 @@ fn found_sheet(asked: &Question<Restrains>, way: &Way) -> Sheet
     }
 }
 
-// The end of a way. An alternative that comes too early is no alternative where one of its flexible nulls is the one that it
+// The end of a way. An alternative that comes too early is no alternative where one of its loose nulls is the one that it
 // spares: so each of them is tried as that null.
 fn settle(asked: &Question<Restrains>, way: &Way, sheet: &mut Sheet) -> bool
     requires few { length way.now.old.now ≤ 3 }
     requires node { OnWay Restraint asked.now.first.now asked.now.second.now asked.now.rigid way.now.sigma.now way.now.old.now [] }
     ensures { Searched result Restraint asked.now.first.now asked.now.second.now asked.now.rigid way.now.sigma.now way.now.old.now sheet.old sheet.new }
 {
-    let sigma = way.sigma;
-    let list = later(asked, sigma, way.old);
+    let list = later(asked, way.sigma, way.old);
     if !is_open(asked, way, &list) {
         return false;
     }
-    let second = Trigger {
-        rule: asked.second,
-        values: second_slots(sigma),
-        facts: &list,
-    };
-    let Some(early) = find_early(second) else {
+    let Some(Early { spared, nulls }) = find_here(asked, way.sigma, &list) else {
         sized(asked.first);
         sized(asked.second);
         *sheet = found_sheet(asked, way);
         return true;
     };
-    let mut given: ArrayVec<Atom, 4> = ArrayVec::new();
-    push_each(asked.second.head(), &Under(&early.values), &mut given);
-    for (i, t) in sigma.iter().enumerate() {
-        if is_choice(*t, &sigma[..i], &asked.rigid, &given) {
-            let mut tau = *sigma;
-            replace(&mut tau, *t, Term::Null(12 + early.spared));
-            let refined = Way {
-                sigma: &tau,
-                ..*way
-            };
-            if settle(asked, &refined, sheet) {
-                return true;
-            }
+    for null in nulls.as_slice() {
+        let mut tau = *way.sigma;
+        replace(&mut tau, Term::Null(*null), Term::Null(12 + spared));
+        let refined = Way {
+            sigma: &tau,
+            ..*way
+        };
+        if settle(asked, &refined, sheet) {
+            return true;
         }
     }
     false

@@ -2,12 +2,11 @@
 // slot is not rigid can be replaced by another term.
 ghost use Rattle.std.specs.Prelude.{◌≡◌, ◌≤◌, Option, map};
 ghost use Rattle.std.specs.Option.{option_map};
-ghost use Rattle.rules.specs.Bounds.{some, flags};
+ghost use Rattle.rules.specs.Bounds.{flags};
 ghost use Rattle.rules.specs.Logic.{formula_of};
 ghost use Rattle.rules.specs.Matches.{value};
-ghost use Rattle.matches.specs.Lists.{formulas};
 ghost use Rattle.matches.specs.Matching.{same};
-ghost use Rattle.reliances.specs.Unification.{through, replaced, flexible, some_flexible?, unify, unify_all, unify_formulas};
+ghost use Rattle.reliances.specs.Unification.{through, replaced, flexible, unify, unify_all, unify_formulas};
 
 use matches::look_up;
 use rules::{Atom, Term, is_flagged};
@@ -16,19 +15,6 @@ pub(crate) fn is_flexible(t: Term, rigid: &[bool]) -> bool
     ensures { result ≡ flexible (flags rigid.now) t }
 {
     matches!(t, Term::Null(n) if !is_flagged(rigid, n))
-}
-
-/// Whether a flexible null stands in one of the atoms.
-pub(crate) fn has_flexible(list: &[Atom], rigid: &[bool]) -> bool
-    ensures { result ≡ some_flexible? (flags rigid.now) (formulas list.now) }
-{
-    list.iter().any(|a| any_flexible(a, rigid))
-}
-
-fn any_flexible(a: &Atom, rigid: &[bool]) -> bool
-    ensures { result ≡ some (flexible (flags rigid.now)) (formula_of a.now).terms }
-{
-    a.args().iter().any(|t| is_flexible(*t, rigid))
 }
 
 fn is_same(x: Term, s: Term) -> bool
