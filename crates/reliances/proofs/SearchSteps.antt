@@ -1,7 +1,7 @@
 -- From node to node of either search, by its kind, and what is known after all heads were tried.
 -- Assumes nothing.
-use Rattle.std.proofs.Common.{◌≡◌, ◌==◌, ℕ, suc, cond, ◌<◌, ◌≤◌, Bool, true, false, Decides, ◌⊎◌, List, [], ◌∷◌, ◌++◌, ◌+◌, ◌-◌, length, get_or, take, drop, Some, None, sym, refl, ap, ◌∙◌, subst, inl, ⊎_elim, arith}
-use Rattle.std.proofs.lemmas.List.{map-append, length-map, length-take, append-nil}
+use Rattle.std.proofs.Common.{◌≡◌, ◌==◌, ℕ, suc, cond, ◌<◌, ◌≤◌, Bool, true, false, Decides, ◌⊎◌, List, [], ◌∷◌, ◌++◌, ◌+◌, length, get_or, take, drop, Some, None, sym, refl, ap, ◌∙◌, subst, inl, ⊎_elim, arith}
+use Rattle.std.proofs.lemmas.List.{map-append, length-map, length-take}
 use Rattle.std.proofs.lemmas.Bool.{false≢true, eqb-true}
 use Rattle.std.proofs.lemmas.Option.{none-some}
 use Rattle.rules.specs.declared.Term.TheVariants.{Null}
@@ -24,7 +24,7 @@ use Rattle.std.specs.List.{filter}
 use Rattle.reliances.specs.RestraintSearch.{opens?, shifted}
 use Rattle.reliances.specs.Searching.{gone, rigid_for, Follows, Deserted, Searched}
 use Rattle.reliances.proofs.Unify.{Slotted, some_same}
-use Rattle.reliances.proofs.Nodes.{makes, node_all, node_taken, taken_length, drop_whole, no_atom, node_start, node_old, node_new, get_d_in}
+use Rattle.reliances.proofs.Nodes.{makes, node_all, node_taken, taken_length, no_atom, node_start, node_old, node_new, get_d_in}
 use Rattle.reliances.proofs.RelianceEnd as reliance_end
 use Rattle.reliances.proofs.RestraintEnd as restraint_end
 use Rattle.reliances.proofs.Positive as positive
@@ -119,10 +119,7 @@ module _ (kind : Kind) (A B : Rule) (rigid : List Bool) (is : Flagged kind A B r
     next_in = node.reached.rest_from (formula_of b) (inl refl)
 
   -- one of the atoms that remain is taken out
-  module _ (old rest others : List Atom) (i : ℕ) (below : i < length rest) (is_rest : others ≡ take i rest ++ take (length rest - (i + 1)) (drop (i + 1) rest)) where
-    others_are : others ≡ take i rest ++ drop (i + 1) rest
-    others_are = is_rest ∙ ap (λ z. take i rest ++ z) (drop_whole rest (i + 1))
-
+  module _ (old rest others : List Atom) (i : ℕ) (below : i < length rest) (others_are : others ≡ take i rest ++ drop (i + 1) rest) where
     pub taken : NodeHere σ old rest → NodeHere σ old (get_or rest i no_atom ∷ others)
     taken node =
         subst (λ z. NodeHere σ old (get_or rest i no_atom ∷ z)) (sym others_are)
@@ -188,16 +185,16 @@ pub room : (kind : Kind) (A B : Rule) (rigid : List Bool) (σ : Subst) (old rest
 room kind A B rigid σ old rest b node = let few = room_all kind A B rigid σ old (b ∷ rest) node in omega (arith, few)
 
 -- where every atom is old, no witness follows
-pub none_new : (kind : Kind) (A B : Rule) (rigid : List Bool) → Flagged kind A B rigid → (σ : Subst) (old rest all : List Atom) (count : ℕ) → count ≡ length (gone kind (meaning B))
-    → all ≡ old ++ rest → rest ≡ [] → count ≤ length all → Node (meaning A).head (gone kind (meaning B)) rigid σ old rest → Deserted kind A B rigid σ old
-none_new kind A B rigid is σ old rest all count e p q l node =
+pub none_new : (kind : Kind) (A B : Rule) (rigid : List Bool) → Flagged kind A B rigid → (σ : Subst) (old rest : List Atom) (count : ℕ) → count ≡ length (gone kind (meaning B))
+    → rest ≡ [] → count ≤ length old + length rest → Node (meaning A).head (gone kind (meaning B)) rigid σ old rest → Deserted kind A B rigid σ old
+none_new kind A B rigid is σ old rest count e q l node =
     at kind is e (subst (NodeHere σ old) q node)
   where
     NodeHere : Subst → List Atom → List Atom → Type 0
     NodeHere = Node (meaning A).head (gone kind (meaning B)) rigid
 
     full : count ≤ length old
-    full = subst (λ z. count ≤ length z) (p ∙ ap (λ z. old ++ z) q ∙ append-nil old) l
+    full = let none = ap length q in omega (arith, l, none)
 
     at : (k : Kind) → Flagged k A B rigid → count ≡ length (gone k (meaning B)) → Node (meaning A).head (gone k (meaning B)) rigid σ old [] → Deserted k A B rigid σ old
     at Positive f c n = reliance_end.none_new A B rigid f σ old count n c full

@@ -12,7 +12,7 @@ ghost use Rattle.reliances.specs.RestraintSearch.{opens?, shifted};
 ghost use Rattle.reliances.specs.Searching.{gone};
 ghost use Rattle.reliances.specs.Sheets.{Shows, Holds, Answered};
 
-use crate::lists::{any_of, push_each, share_predicate};
+use crate::lists::{any_of, count_of, push_each, share_predicate};
 use crate::reliance_search::Relies;
 use crate::restraint_search::{Restrains, Shifted};
 use crate::search::{Question, Relation, Way, search};
@@ -115,5 +115,17 @@ fn begin<R: Relation>(asked: &Question<R>, atoms: &[Atom], sheet: &mut Sheet) ->
         old: &[],
         rest: atoms,
     };
+    if is_wide(asked.first.head(), atoms) && R::is_hopeless(asked, &way) {
+        return false;
+    }
     search(asked, &way, sheet)
+}
+
+// Whether so many pairs of atoms have a predicate in common that a look before the search is worth its time.
+fn is_wide(heads: &[Atom], atoms: &[Atom]) -> bool {
+    let mut pairs: usize = 0;
+    for b in atoms {
+        pairs = pairs.saturating_add(count_of(heads, b.predicate));
+    }
+    pairs >= 8
 }

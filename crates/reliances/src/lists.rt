@@ -61,6 +61,11 @@ pub(crate) fn any_of(atoms: &[Atom], predicate: u16) -> bool
     atoms.iter().any(|a| a.predicate == predicate)
 }
 
+/// How many of the atoms have the predicate. It is a hint, so nothing is promised.
+pub(crate) fn count_of(atoms: &[Atom], predicate: u16) -> usize {
+    atoms.iter().filter(|a| a.predicate == predicate).count()
+}
+
 /// Whether an atom of `list` has the predicate of one of `heads`.
 pub(crate) fn share_predicate(heads: &[Atom], list: &[Atom]) -> bool
     ensures { result ≡ shares? (formulas heads.now) (formulas list.now) }

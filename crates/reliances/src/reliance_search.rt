@@ -52,6 +52,11 @@ impl Relation for Relies {
         };
         Sight::Next(pick(&test, facts, way.rest.len()))
     }
+
+    fn is_hopeless(asked: &Question<Relies>, way: &Way) -> bool {
+        let list = laid(asked, way.sigma, way.old);
+        !is_free(asked, way.sigma, &list[..asked.first.body().len()])
+    }
 }
 
 // The test of facts for a question.

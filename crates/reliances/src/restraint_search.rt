@@ -6,7 +6,7 @@ ghost use Rattle.rules.specs.Rules.{meaning};
 ghost use Rattle.matches.specs.Lists.{look, formulas, under_atom};
 ghost use Rattle.reliances.specs.declared.sheet.Kind.TheVariants.{Restraint};
 ghost use Rattle.reliances.specs.RestraintSearch.{shift_by, shift_atom, laid_later, SomeSpared, EarlyFound, Stuck, OtherIs, Open, IsFound};
-ghost use Rattle.reliances.specs.Searching.{OnWay, Seen, Searched};
+ghost use Rattle.reliances.specs.Searching.{Deserted, OnWay, Seen, Searched};
 
 use crate::early::{Early, Looseness, find_early};
 use crate::lists::{Reading, Under, push_each};
@@ -41,7 +41,7 @@ impl Relation for Restrains {
         }
         let list = later(asked, way.sigma, all);
         let facts = &list[..list.len() - way.rest.len()];
-        if !is_open(asked, way, facts) || is_stuck(asked, way.sigma, facts) {
+        if is_shut(asked, way, facts) {
             return Sight::Shut;
         }
         let test = Freedom {
@@ -49,6 +49,11 @@ impl Relation for Restrains {
             sigma: way.sigma,
         };
         Sight::Next(pick(&test, &list, way.rest.len()))
+    }
+
+    fn is_hopeless(asked: &Question<Restrains>, way: &Way) -> bool {
+        let list = later(asked, way.sigma, way.old);
+        is_shut(asked, way, &list)
     }
 }
 
@@ -192,6 +197,15 @@ fn find_here(asked: &Question<Restrains>, sigma: &[Term; 36], facts: &[Atom]) ->
         rigid: &asked.rigid,
     };
     find_early(second, looseness)
+}
+
+// Whether no facts and matches follow to the node, as far as is told by its facts.
+fn is_shut(asked: &Question<Restrains>, way: &Way, list: &[Atom]) -> bool
+    requires node { let q = asked.now in OnWay Restraint q.first.now q.second.now q.rigid way.now.sigma.now way.now.old.now way.now.rest.now }
+    requires list { list.now ≡ laid_later asked.now.first.now asked.now.second.now way.now.sigma.now way.now.old.now }
+    ensures { let q = asked.now in result ≡ true → Deserted Restraint q.first.now q.second.now q.rigid way.now.sigma.now way.now.old.now }
+{
+    !is_open(asked, way, list) || is_stuck(asked, way.sigma, list)
 }
 
 // Whether an alternative comes too early in which no null is loose: then none of them all can be kept from coming too early.

@@ -1,10 +1,11 @@
 // The search behind a question: each atom of the second rule that is gone through is left old, or unified with a head atom
 // of the first rule.
-ghost use Rattle.std.specs.Prelude.{◌≡◌, ◌+◌, ◌<◌, ◌≤◌, ◌++◌, length, take};
+ghost use Rattle.std.specs.Prelude.{◌≡◌, ◌+◌, ◌<◌, ◌≤◌, true, [], ◌++◌, length, take, drop};
+ghost use Rattle.arrayvec.specs.ArrayVec.{array_vec_len};
 ghost use Rattle.rules.specs.Bounds.{FlagsAre};
 ghost use Rattle.rules.specs.Rules.{meaning};
 ghost use Rattle.reliances.specs.declared.sheet.Kind.{Kind};
-ghost use Rattle.reliances.specs.Searching.{gone, rigid_for, OnWay, Seen, Searched};
+ghost use Rattle.reliances.specs.Searching.{gone, rigid_for, Deserted, OnWay, Seen, Searched};
 
 use crate::lists::push_all;
 use crate::substitution::rigid_slots;
@@ -38,6 +39,12 @@ pub(crate) trait Relation {
         requires all { all.now ≡ way.now.old.now ++ way.now.rest.now }
         requires new { length all.now < asked.now.count }
         ensures { let q = asked.now in Seen result KIND q.first.now q.second.now q.rigid way.now.sigma.now way.now.old.now way.now.rest.now sheet.old sheet.new };
+
+    /// Whether no facts and matches follow the search at all, as is told at its start by what no atom changes.
+    fn is_hopeless(asked: &Question<Self>, way: &Way) -> bool
+        requires node { let q = asked.now in OnWay KIND q.first.now q.second.now q.rigid way.now.sigma.now way.now.old.now way.now.rest.now }
+        requires start { way.now.old.now ≡ [] }
+        ensures { let q = asked.now in result ≡ true → Deserted KIND q.first.now q.second.now q.rigid way.now.sigma.now way.now.old.now };
 }
 
 /// A test of facts. (A trait of its own, and no step of a relation: that would lead back to the step that calls it.)
@@ -95,12 +102,13 @@ pub(crate) fn search<R: Relation>(asked: &Question<R>, way: &Way, sheet: &mut Sh
         Sight::Next(i) => i,
     };
     let next = way.rest[i];
-    let rest = together(&way.rest[..i], &way.rest[i + 1..]);
+    let mut others = ArrayVec::new();
+    let rest = without(way.rest, i, &mut others);
     for head in asked.first.head() {
         if let Some(sigma) = unify(head, &next, way.sigma, &asked.rigid) {
             let joined = Way {
                 sigma: &sigma,
-                rest: &rest,
+                rest,
                 ..*way
             };
             if search(asked, &joined, sheet) {
@@ -111,7 +119,7 @@ pub(crate) fn search<R: Relation>(asked: &Question<R>, way: &Way, sheet: &mut Sh
     let old = together(way.old, &[next]);
     let kept = Way {
         old: &old,
-        rest: &rest,
+        rest,
         ..*way
     };
     search(asked, &kept, sheet)
@@ -122,14 +130,27 @@ fn see<R: Relation>(asked: &Question<R>, way: &Way, sheet: &mut Sheet) -> Sight
     requires { let q = asked.now in OnWay R.KIND q.first.now q.second.now q.rigid way.now.sigma.now way.now.old.now way.now.rest.now }
     ensures { let q = asked.now in Seen result R.KIND q.first.now q.second.now q.rigid way.now.sigma.now way.now.old.now way.now.rest.now sheet.old sheet.new }
 {
-    let all = together(way.old, way.rest);
-    if all.len() < asked.count {
+    if way.old.len() + way.rest.len() < asked.count {
+        let all = together(way.old, way.rest);
         return R::look(asked, way, &all, sheet);
     }
     if way.rest.is_empty() {
         return Sight::Shut;
     }
     Sight::Next(0)
+}
+
+// The atoms but the one at the place: what comes after the first as it stands, and otherwise a copy.
+fn without<'a>(atoms: &'a [Atom], i: usize, copy: &'a mut ArrayVec<Atom, 6>) -> &'a [Atom]
+    requires { (i < length atoms.now) × (length atoms.now ≤ 6) × (copy.old.items ≡ []) }
+    ensures { result.now ≡ take i atoms.now ++ drop (i + 1) atoms.now }
+{
+    if i == 0 {
+        return &atoms[1..];
+    }
+    push_all(&atoms[..i], copy);
+    push_all(&atoms[i + 1..], copy);
+    copy.as_slice()
 }
 
 // The atoms of two lists.

@@ -1,34 +1,30 @@
-use Rattle.std.proofs.Common.{length, get_or, sym, ap, ◌∙◌, subst, arith}
-use Rattle.std.proofs.lemmas.List.{length-take, take_all}
+use Rattle.std.proofs.Common.{get_or, ◌∙◌, subst, arith}
+use Rattle.std.proofs.lemmas.List.{take_all}
 use Rattle.rules.specs.Logic.{Each}
-use Rattle.reliances.specs.Searching.{OnWay}
 use Rattle.reliances.proofs.Nodes.{no_atom, each_taken}
 use Rattle.reliances.proofs.SearchSteps.{room, room_all, taken, fewer, NotJoined, not_unified, not_followed, next_old, next_new, next_in, searched_old}
 use Rattle.reliances.proofs.search.+search.Goals.{in-Some+else-search, in_default}
 use Rattle.reliances.proofs.search.+search.Goals as goal
 
-pub together-rest-requires : goal.together-rest-requires
-together-rest-requires g t c =
+pub without-rest-requires : goal.without-rest-requires
+without-rest-requires g t c =
     let q = c.args.asked.now in
     let way = c.args.way.now in
     let few = room_all g.R.Relation.KIND q.first.now q.second.now q.rigid way.sigma.now way.old.now way.rest.now c.requires in
-    simp length-take (omega (arith, few, c.in-Next.ensures.0))
+    (c.in-Next.ensures.0, omega (arith, few), c.new-others.ensures)
 
 pub search-requires : goal.search-requires
 search-requires g t c κs within =
     let q = c.args.asked.now in
     let way = c.args.way.now in
     let i = c.in-Next.i in
-    let rest = c.together-rest.result.items in
-    let node = taken g.R.Relation.KIND q.first.now q.second.now q.rigid q.flags way.sigma.now way.old.now way.rest.now rest i c.in-Next.ensures.0 c.together-rest.ensures c.requires in
-    let shorter = fewer g.R.Relation.KIND q.first.now q.second.now q.rigid q.flags way.sigma.now way.old.now way.rest.now rest i c.in-Next.ensures.0 c.together-rest.ensures in
-    let same = c.deref.ensures.0 in
-    let long = ap length same in (
-      omega (arith, shorter, long, c.decreases),
+    let rest = c.without-rest.result.now in
+    let node = taken g.R.Relation.KIND q.first.now q.second.now q.rigid q.flags way.sigma.now way.old.now way.rest.now rest i c.in-Next.ensures.0 c.without-rest.ensures c.requires in
+    let shorter = fewer g.R.Relation.KIND q.first.now q.second.now q.rigid q.flags way.sigma.now way.old.now way.rest.now rest i c.in-Next.ensures.0 c.without-rest.ensures in (
+      omega (arith, shorter, c.decreases),
       (
         within,
-        subst (OnWay g.R.Relation.KIND q.first.now q.second.now q.rigid c.in-Some.sigma way.old.now) (sym same)
-            (next_new g.R.Relation.KIND q.first.now q.second.now q.rigid q.flags way.sigma.now way.old.now rest (get_or way.rest.now i no_atom) node
+        (next_new g.R.Relation.KIND q.first.now q.second.now q.rigid q.flags way.sigma.now way.old.now rest (get_or way.rest.now i no_atom) node
             c.in-Some.sigma c.head-head-items.result.now c.loop-head.head-index c.head-head-items.ensures.same c.loop-head-test.true c.in-Some.ensures),
       ),
     )
@@ -61,8 +57,8 @@ together-old-requires g t c =
     let q = c.args.asked.now in
     let way = c.args.way.now in
     let i = c.in-Next.i in
-    let rest = c.together-rest.result.items in
-    let node = taken g.R.Relation.KIND q.first.now q.second.now q.rigid q.flags way.sigma.now way.old.now way.rest.now rest i c.in-Next.ensures.0 c.together-rest.ensures c.requires in
+    let rest = c.without-rest.result.now in
+    let node = taken g.R.Relation.KIND q.first.now q.second.now q.rigid q.flags way.sigma.now way.old.now way.rest.now rest i c.in-Next.ensures.0 c.without-rest.ensures c.requires in
     let few = room g.R.Relation.KIND q.first.now q.second.now q.rigid way.sigma.now way.old.now rest (get_or way.rest.now i no_atom) node in
     omega (arith, few)
 
@@ -71,17 +67,14 @@ search-requires-2 g t c κs within =
     let q = c.args.asked.now in
     let way = c.args.way.now in
     let i = c.in-Next.i in
-    let rest = c.together-rest.result.items in
-    let node = taken g.R.Relation.KIND q.first.now q.second.now q.rigid q.flags way.sigma.now way.old.now way.rest.now rest i c.in-Next.ensures.0 c.together-rest.ensures c.requires in
-    let shorter = fewer g.R.Relation.KIND q.first.now q.second.now q.rigid q.flags way.sigma.now way.old.now way.rest.now rest i c.in-Next.ensures.0 c.together-rest.ensures in
-    let same = c.deref-3.ensures.0 in
-    let long = ap length same in (
-      omega (arith, shorter, long, c.decreases),
+    let rest = c.without-rest.result.now in
+    let node = taken g.R.Relation.KIND q.first.now q.second.now q.rigid q.flags way.sigma.now way.old.now way.rest.now rest i c.in-Next.ensures.0 c.without-rest.ensures c.requires in
+    let shorter = fewer g.R.Relation.KIND q.first.now q.second.now q.rigid q.flags way.sigma.now way.old.now way.rest.now rest i c.in-Next.ensures.0 c.without-rest.ensures in (
+      omega (arith, shorter, c.decreases),
       (
         within,
-        subst (OnWay g.R.Relation.KIND q.first.now q.second.now q.rigid way.sigma.now c.deref-2.result.now) (sym same)
-            (next_old g.R.Relation.KIND q.first.now q.second.now q.rigid q.flags way.sigma.now way.old.now rest (get_or way.rest.now i no_atom) node c.deref-2.result.now
-            (c.deref-2.ensures.0 ∙ c.together-old.ensures)),
+        (next_old g.R.Relation.KIND q.first.now q.second.now q.rigid q.flags way.sigma.now way.old.now rest (get_or way.rest.now i no_atom) node c.deref.result.now
+            (c.deref.ensures.0 ∙ c.together-old.ensures)),
       ),
     )
 
@@ -91,13 +84,13 @@ returns g t c =
     let way = c.args.way.now in
     let heads = c.head-head-items.result.now in
     let i = c.in-Next.i in
-    let rest = c.together-rest.result.items in
+    let rest = c.without-rest.result.now in
     let next = get_or way.rest.now i no_atom in
-    let node = taken g.R.Relation.KIND q.first.now q.second.now q.rigid q.flags way.sigma.now way.old.now way.rest.now rest i c.in-Next.ensures.0 c.together-rest.ensures c.requires in
-    searched_old g.R.Relation.KIND q.first.now q.second.now q.rigid q.flags way.sigma.now c.search-2.result c.args.sheet.now c.loop-head.sheet c.search-2.new.sheet way.old.now c.deref-2.result.now heads next
+    let node = taken g.R.Relation.KIND q.first.now q.second.now q.rigid q.flags way.sigma.now way.old.now way.rest.now rest i c.in-Next.ensures.0 c.without-rest.ensures c.requires in
+    searched_old g.R.Relation.KIND q.first.now q.second.now q.rigid q.flags way.sigma.now c.search-2.result c.args.sheet.now c.loop-head.sheet c.search-2.new.sheet way.old.now c.deref.result.now heads next
     (next_in g.R.Relation.KIND q.first.now q.second.now q.rigid q.flags way.sigma.now way.old.now rest next node)
     c.head-head-items.ensures.same
     (subst (Each (NotJoined g.R.Relation.KIND q.first.now q.second.now q.rigid way.sigma.now way.old.now next)) (take_all c.loop-head.head-index heads c.loop-head-test.false) c.loop-head.invariant.1)
-    (c.deref-2.ensures.0 ∙ c.together-old.ensures)
+    (c.deref.ensures.0 ∙ c.together-old.ensures)
     (c.loop-head.invariant.0 ∙ c.in-Next.ensures.1)
     c.search-2.ensures

@@ -12,7 +12,7 @@ pub returns-then-is_empty : goal.returns-then-is_empty
 returns-then-is_empty g c =
     let q = c.args.asked.now in
     let way = c.args.way.now in (
-      none_new g.R.Relation.KIND q.first.now q.second.now q.rigid q.flags way.sigma.now way.old.now way.rest.now c.together-all.result.items q.count q.all c.together-all.ensures
-          (none_left way.rest.now c.is_empty.result c.is_empty.ensures c.if-is_empty.true) (omega (arith, c.len.ensures.value, c.if-len-asked.false)) c.requires,
+      none_new g.R.Relation.KIND q.first.now q.second.now q.rigid q.flags way.sigma.now way.old.now way.rest.now q.count q.all
+          (none_left way.rest.now c.is_empty.result c.is_empty.ensures c.if-is_empty.true) (omega (arith, c.if-way-asked.false)) c.requires,
       refl,
     )
