@@ -12,7 +12,7 @@ use Rattle.matches.specs.Lists.{Spares, HasAlternative}
 use Rattle.matches.specs.Matching.{same, stands, stands_in, Slots, bound, filled, solve, sparing, matches?, spared?, alternative?, agrees?, chosen?}
 use Rattle.matches.proofs.Basics.{in_map, from_map, in_terms, from_terms, decides_stands, decides_same, decides_stands_in}
 use Rattle.matches.proofs.Bounded.{Bounded}
-use Rattle.matches.proofs.Literal.{extends, extends_none, decides_satisfied, decides_matches, decides_universals, decides_some_existential}
+use Rattle.matches.proofs.Literal.{Reordered, extends, extends_none, decides_mapped, decides_matches, decides_universals, decides_some_existential}
 
 sparing_in : (t : Term) (x a : Formula) (rest : List Formula) (b : Bool) → ((x ≡ a) × (b ≡ false)) ⊎ In x (sparing t rest) → In x (elim b [ true ↦ sparing t rest | false ↦ a ∷ sparing t rest ])
 sparing_in t x a rest true (inl p) = absurd (false≢true (sym p.1))
@@ -66,23 +66,24 @@ module _ (R : Implication) (h : Assignment) (S : List Formula) (v : ℕ) (k : As
 pub its_spared : (R : Implication) (h : Assignment) (S : List Formula) (k : Assignment) (a : Alternative R h S k) → Spares R h S a.spared k
 its_spared R h S k a = record { agrees = a.agrees; present = a.present; given = a.given; absent = a.absent }
 
-module _ (R : Implication) (b : Bounded R) (h : Assignment) (S : List Formula) (v : ℕ) where
-  -- what a search in the facts without the null of v comes to
-  pub spared_found : (q : Slots) → solve (sparing (h v) S) R.head (bound R h) ≡ Some q → Existential R v
-      → (k : Assignment) → ((u : ℕ) → u < 12 → k u ≡ filled q h u) → Spares R h S v k
-  spared_found q e given k same = let z = extends R b h (sparing (h v) S) q e k same in spares_from R h S v k given z.0 z.1
+module _ (R : Implication) (b : Bounded R) (O : List Formula) (order : Reordered R O) (h : Assignment) (S : List Formula) where
+  module _ (v : ℕ) where
+    -- what a search in the facts without the null of v comes to
+    pub spared_found : (q : Slots) → solve (sparing (h v) S) O (bound R h) ≡ Some q → Existential R v
+        → (k : Assignment) → ((u : ℕ) → u < 12 → k u ≡ filled q h u) → Spares R h S v k
+    spared_found q e given k same = let z = extends R b h O order (sparing (h v) S) q e k same in spares_from R h S v k given z.0 z.1
 
-  pub spared_none : solve (sparing (h v) S) R.head (bound R h) ≡ None → (k : Assignment) → Spares R h S v k → ⊥
-  spared_none e k s = extends_none R b h (sparing (h v) S) e k s.agrees (spares_to R h S v k s)
+    pub spared_none : solve (sparing (h v) S) O (bound R h) ≡ None → (k : Assignment) → Spares R h S v k → ⊥
+    spared_none e k s = extends_none R b h O order (sparing (h v) S) e k s.agrees (spares_to R h S v k s)
 
-pub decides_alternative : (R : Implication) (b : Bounded R) (h : Assignment) (S : List Formula) → Decides (alternative? R h S) (HasAlternative R h S)
-decides_alternative R b h S =
-    Decides-like (alternative? R h S)
-    (λ s. let z = s.2 in (z.extension, is_alternative R h S s.0 z.extension (spares_from R h S s.0 z.extension s.1 z.agrees z.present)))
-    (λ s.
-    let a = s.1 in
-    (a.spared, a.given, record { extension = s.0; agrees = a.agrees; present = spares_to R h S a.spared s.0 (its_spared R h S s.0 a) }))
-    (decides_some_existential R b h (spared? R h S) (λ v. Satisfied R h (sparing (h v) S)) (λ v. decides_satisfied R b h (sparing (h v) S)))
+  pub decides_alternative : Decides (alternative? R h S O) (HasAlternative R h S)
+  decides_alternative =
+      Decides-like (alternative? R h S O)
+      (λ s. let z = s.2 in (z.extension, is_alternative R h S s.0 z.extension (spares_from R h S s.0 z.extension s.1 z.agrees z.present)))
+      (λ s.
+      let a = s.1 in
+      (a.spared, a.given, record { extension = s.0; agrees = a.agrees; present = spares_to R h S a.spared s.0 (its_spared R h S s.0 a) }))
+      (decides_some_existential R b h (spared? R h S O) (λ v. Satisfied R h (sparing (h v) S)) (λ v. decides_mapped R b h O order (sparing (h v) S)))
 
 pub decides_chosen : (R : Implication) (b : Bounded R) (h k : Assignment) (S : List Formula) → Decides (chosen? R h k S) (Alternative R h S k)
 decides_chosen R b h k S =

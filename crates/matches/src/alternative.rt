@@ -2,7 +2,7 @@
 ghost use Rattle.std.specs.Prelude.{◌≡◌, map, Decides};
 ghost use Rattle.rules.specs.Matches.{under};
 ghost use Rattle.rules.specs.Reliances.{Alternative};
-ghost use Rattle.rules.specs.Rules.{meaning};
+ghost use Rattle.rules.specs.Rules.{meaning, order_of};
 ghost use Rattle.matches.specs.Lists.{look, formulas, HasAlternative, AlternativeSparing};
 ghost use Rattle.matches.specs.Matching.{stands_in, solve, sparing, bound, agrees?, spares?, chosen?};
 
@@ -50,9 +50,9 @@ impl Trigger<'_> {
 
     /// What maps the head into the facts without the null of the variable.
     fn find_without(self, v: u16) -> Option<Slots>
-        ensures { result ≡ solve (sparing (look self.entry.values.now v) (formulas self.entry.facts.now)) (meaning self.entry.rule.now).head (bound (meaning self.entry.rule.now) (look self.entry.values.now)) }
+        ensures { result ≡ solve (sparing (look self.entry.values.now v) (formulas self.entry.facts.now)) (formulas (order_of self.entry.rule.now)) (bound (meaning self.entry.rule.now) (look self.entry.values.now)) }
     {
-        Slots::bound(self).map_into(self.facts, Some(self.value(v)), self.rule.head())
+        Slots::bound(self).map_into(self.facts, Some(self.value(v)), self.rule.search_order())
     }
 
     /// Whether `k` gives the universal variables what the values give them.

@@ -32,7 +32,7 @@ impl Trigger<'_> {
         ensures { Decides result (Satisfied (meaning self.entry.rule.now) (look self.entry.values.now) (formulas self.entry.facts.now)) }
     {
         Slots::bound(self)
-            .map_into(self.facts, None, self.rule.head())
+            .map_into(self.facts, None, self.rule.search_order())
             .is_some()
     }
 

@@ -3,4 +3,5 @@ pub mod Mapping
 pub mod Membership
 pub mod Alike
 pub mod Bounded
+pub mod Rearranged
 pub mod Shown

@@ -1,12 +1,11 @@
 -- What stands in a list, and tests of lists that decide it.
 -- Assumes nothing.
-use Rattle.std.proofs.Common.{◌≡◌, ℕ, Bool, true, false, ◌&&◌, ◌||◌, eqb, ◌⊎◌, List, [], ◌∷◌, ◌++◌, map, Decides, sym, refl, ap, subst, inl, inr, ⊎_elim, arith}
+use Rattle.std.proofs.Common.{◌≡◌, ℕ, Bool, true, false, ◌&&◌, ◌||◌, eqb, ◌⊎◌, List, [], ◌∷◌, ◌++◌, Decides, sym, refl, ap, subst, inl, inr, ⊎_elim, arith}
 use Rattle.std.proofs.lemmas.Bool.Decides.{Decides-eqb, Decides-and, Decides-or, Decides-not, Decides-like}
 use Rattle.std.proofs.lemmas.Bool.{false≢true}
 use Rattle.rules.specs.declared.Term.{Term}
 use Rattle.rules.specs.declared.Term.TheVariants.{Constant, Variable, Null}
-use Rattle.rules.specs.declared.Atom.{Atom}
-use Rattle.rules.specs.Logic.{In, Each, Formula, Implication, formula_of, terms_of, Existential}
+use Rattle.rules.specs.Logic.{In, Each, Formula, Implication, terms_of, Existential}
 use Rattle.rules.specs.Bounds.{every, some, is_variable?, has?, existential?}
 
 pub in_left : {A : Type 0} (x : A) (xs ys : List A) → In x xs → In x (xs ++ ys)

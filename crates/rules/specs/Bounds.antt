@@ -1,6 +1,6 @@
 -- What parts make a rule: the counts that every rule keeps, as tests and in words.
 use Rattle.std.specs.Prelude.{◌≡◌, ℕ, ◌≤◌, Bool, true, false, not, ◌&&◌, List, take, ◌==◌, nat_le, slice_index_or}
-use Rattle.std.specs.List.{list_all, list_any, count_by, range_with_len}
+use Rattle.std.specs.List.{list_all, list_any, count_by, sum_by, range_with_len}
 use Rattle.rules.specs.declared.Term.{Term}
 use Rattle.rules.specs.declared.Term.TheVariants.{Constant, Variable, Null}
 use Rattle.rules.specs.declared.Atom.{Atom}
@@ -38,6 +38,10 @@ flags xs v = slice_index_or xs v false
 -- the flags say of each number what the test says
 abbrev pub FlagsAre : List Bool → (ℕ → Bool) → Type 0
 FlagsAre xs test = (v : ℕ) → flags xs v ≡ test v
+
+-- the same elements, each as often, in any order: whatever is summed over them, the sum is the same
+abbrev pub Rearranged : {A : Type 0} → List A → List A → Type 0
+Rearranged {A} xs ys = (f : A → ℕ) → sum_by f ys ≡ sum_by f xs
 
 -- how many of the variables 0 to 11 are existential
 abbrev pub existentials : Implication → ℕ

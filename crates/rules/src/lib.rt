@@ -3,6 +3,7 @@
 
 mod args;
 mod made;
+mod order;
 mod parts;
 mod rule;
 mod show;

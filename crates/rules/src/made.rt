@@ -1,9 +1,10 @@
 ghost use Rattle.std.specs.Prelude.{◌≡◌, Decides};
 ghost use Rattle.rules.specs.Logic.{Universal, Existential};
-ghost use Rattle.rules.specs.Bounds.{body_of, head_of, MakesRule, universal?, existential?};
-ghost use Rattle.rules.specs.Rules.{MadeOf, meaning};
+ghost use Rattle.rules.specs.Bounds.{body_of, head_of, MakesRule, Rearranged, universal?, existential?};
+ghost use Rattle.rules.specs.Rules.{MadeOf, meaning, order_of};
 
-use crate::{Atom, Rule, RuleParts, is_flagged};
+use crate::order::arranged;
+use crate::{Atom, Rule, RuleParts, first, is_flagged};
 
 impl Rule {
     /// The rule that has these parts, or none where they make no rule.
@@ -13,10 +14,12 @@ impl Rule {
         if !parts.make_rule() {
             return None;
         }
+        let existential = parts.flag_existential();
         Some(Rule {
             parts,
             universal: parts.flag_universal(),
-            existential: parts.flag_existential(),
+            existential,
+            order: arranged(&parts, &existential),
         })
     }
 
@@ -42,6 +45,14 @@ impl Rule {
         ensures kept { MakesRule self.now.parts }
     {
         self.parts.head()
+    }
+
+    /// The head's atoms in the order in which a search best maps them into facts.
+    pub fn search_order(&self) -> &[Atom]
+        ensures same { result.now ≡ order_of self.now }
+        ensures kept { Rearranged (head_of self.now.parts) result.now }
+    {
+        first(&self.order, self.parts.heads)
     }
 
     /// Whether the variable stands in the body.

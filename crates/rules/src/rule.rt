@@ -1,8 +1,8 @@
-ghost use Rattle.std.specs.Prelude.{◌≡◌, true};
+ghost use Rattle.std.specs.Prelude.{◌≡◌, true, take};
 ghost use Rattle.rules.specs.Logic.{implication_of};
-ghost use Rattle.rules.specs.Bounds.{makes_rule?, universal?, existential?, FlagsAre};
+ghost use Rattle.rules.specs.Bounds.{makes_rule?, universal?, existential?, FlagsAre, head_of, Rearranged};
 
-use crate::RuleParts;
+use crate::{Atom, RuleParts};
 
 /// A rule: one to six body atoms, one to four head atoms, each of one to four terms, its variables numbered 0 to 11,
 /// at most four of them existential. Made by `Rule::new`, which checks the parts, so that nothing later has to.
@@ -12,7 +12,10 @@ pub struct Rule {
     // Which variables are universal, and which existential: told once, since every judgment asks it.
     pub(crate) universal: [bool; 12],
     pub(crate) existential: [bool; 12],
+    // The head's atoms once more, in the order in which a search maps them.
+    pub(crate) order: [Atom; 4],
     ghost kept: { makes_rule? parts ≡ true },
+    ghost same_head: { Rearranged (head_of parts) (take parts.heads order) },
     ghost in_body: { FlagsAre universal (universal? (implication_of parts)) },
     ghost only_in_head: { FlagsAre existential (existential? (implication_of parts)) },
 }
