@@ -1,0 +1,3 @@
+pub mod Sets
+pub mod Counting
+pub mod Levels
