@@ -8,7 +8,7 @@ use Rattle.std.specs.Int.{bit_at}
 use Rattle.std.specs.Int.Count.{ones, ones_in}
 use Rattle.grades.specs.declared.pairs.Pairs.{Pairs}
 use Rattle.grades.specs.Pairs.{Related, In, Distinct, Count, PairCount}
-use Rattle.grades.specs.Rising.{size}
+use Rattle.grades.specs.Sets.{size}
 
 -- ---- counting things
 
@@ -129,9 +129,6 @@ row_count i x (suc k) = elim (cases_eq (bit_at x k) 1) [
 -- the pairs of the rows below i
 abbrev pub BelowRow : Pairs → ℕ → ℕ → ℕ → Type 0
 BelowRow r n i j = (i < n) × Related r i j
-
-pub no_rows : (r : Pairs) → PairCount (BelowRow r 0) 0
-no_rows r = count_none _ (λ p h. let low = h.0 in absurd (omega arith))
 
 pub one_row_more : (r : Pairs) (i n : ℕ) → i < 64 → get_or r.rows i 0 < 2 ^ 64 → PairCount (BelowRow r i) n
     → PairCount (BelowRow r (i + 1)) (n + ones (get_or r.rows i 0))

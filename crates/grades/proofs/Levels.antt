@@ -5,82 +5,90 @@ use Rattle.grades.specs.declared.slots.Slots.{Slots}
 use Rattle.grades.specs.declared.pairs.Pairs.{Pairs}
 use Rattle.grades.specs.Pairs.{HasSlot, Related}
 use Rattle.grades.specs.Numbering.{Keeps, LeastOfSlots}
-use Rattle.grades.specs.Rising.{Above, Given, Rising, size}
+use Rattle.grades.specs.Sets.{size}
+use Rattle.grades.specs.Rising.{Above, Given, Rising}
 use Rattle.grades.proofs.Sets.{cases_has, size_le, more_slots}
-
--- the slot j comes after some slot of the set
-abbrev pub After : Slots → Pairs → ℕ → Type 0
-After set r j = (i : ℕ) × HasSlot set i × Related r i j
 
 -- ---- the slots that need a greater number
 
+-- the slot j comes after some slot of the set
+abbrev After : Slots → Pairs → ℕ → Type 0
+After set r j = (i : ℕ) × HasSlot set i × Related r i j
+
+-- those that are found so far, and the new ones among them, from which it was not gone on yet
+pub record Reaching (set : Slots) (at_most less_than : Pairs) (found new : Slots) : Type 0 where
+  pub fresh : (j : ℕ) → HasSlot new j → HasSlot found j → ⊥
+  pub within : (j : ℕ) → HasSlot found j ⊎ HasSlot new j → HasSlot set j
+  pub first : (i j : ℕ) → HasSlot set i → HasSlot set j → Related less_than i j → HasSlot found j ⊎ HasSlot new j
+  pub closed : (i j : ℕ) → HasSlot found i → HasSlot set j → Related at_most i j → HasSlot found j ⊎ HasSlot new j
+  pub needed :
+      (number : ℕ → ℕ) → Keeps (HasSlot set) (Related at_most) (Related less_than) number
+      → (m : ℕ) → ((i : ℕ) → HasSlot set i → m ≤ number i) → (j : ℕ) → HasSlot found j ⊎ HasSlot new j → m < number j
+
 module _ (set : Slots) (at_most less_than : Pairs) where
   -- at first: those that come after a slot of the set
-  pub above_first : (after found : Slots) → ((j : ℕ) → HasSlot after j ↔ After set less_than j)
-      → ((j : ℕ) → HasSlot found j ↔ (HasSlot after j × HasSlot set j)) → Above set at_most less_than (HasSlot found) found
-  above_first after found is_after is = record {
-    within = λ j h. ((is j).0 h).1;
-    first = λ i j hi hj r. (is j).1 ((is_after j).1 (i, hi, r), hj);
-    closed = λ i j hi fresh hj r. absurd (fresh hi);
-    needed = λ number keeps m all j h.
-        let both = (is j).0 h in
-        let from = (is_after j).0 both.0 in
-        let less = keeps.less_than from.0 j from.1 both.1 from.2 in
-        let low = all from.0 from.1 in
-        omega arith;
+  pub reaching_first : (found after new : Slots) → ((j : ℕ) → HasSlot found j → ⊥) → ((j : ℕ) → HasSlot after j ↔ After set less_than j)
+      → ((j : ℕ) → HasSlot new j ↔ (HasSlot after j × HasSlot set j)) → Reaching set at_most less_than found new
+  reaching_first found after new none is_after is_new = record {
+    fresh = λ j _ h. none j h;
+    within = λ j h. elim h [ inl old ↦ absurd (none j old) | inr one ↦ ((is_new j).0 one).1 ];
+    first = λ i j hi hj r. inr ((is_new j).1 ((is_after j).1 (i, hi, r), hj));
+    closed = λ i j hi _ _. absurd (none i hi);
+    needed = λ number keeps m all j h. elim h [
+      | inl old ↦ absurd (none j old)
+      | inr one ↦
+          let both = (is_new j).0 one in
+          let from = (is_after j).0 both.0 in
+          let less = keeps.less_than from.0 j from.1 both.1 from.2 in
+          let low = all from.0 from.1 in
+          omega arith
+    ];
   }
 
-  module _ (old found after kept new : Slots) (inside : (i : ℕ) → HasSlot old i → HasSlot found i) (above : Above set at_most less_than (HasSlot old) found)
-      (is_after : (j : ℕ) → HasSlot after j ↔ After old at_most j) (is_kept : (j : ℕ) → HasSlot kept j ↔ (HasSlot after j × HasSlot set j))
-      (is_new : (j : ℕ) → HasSlot new j ↔ (HasSlot kept j × (HasSlot found j → ⊥))) where
-    -- what must be at least one of the new ones is in `found`, or new in its turn
-    followed : (i j : ℕ) → HasSlot old i → HasSlot set j → Related at_most i j → HasSlot found j ⊎ HasSlot new j
-    followed i j hi hj r = elim (cases_has found j) [
-      | inl there ↦ inl there
-      | inr gone ↦ inr ((is_new j).1 ((is_kept j).1 ((is_after j).1 (i, hi, r), hj), gone))
-    ]
-
+  module _ (found new : Slots) (reaching : Reaching set at_most less_than found new) where
     -- nothing is new: these are all
-    pub above_done : ((i : ℕ) → HasSlot new i → ⊥) → Above set at_most less_than (λ _. ⊥) found
-    above_done none = record {
-      within = above.within;
-      first = above.first;
-      closed = λ i j hi _ hj r. elim (cases_has old i) [
-        | inl one ↦ elim (followed i j one hj r) [ inl there ↦ there | inr other ↦ absurd (none j other) ]
-        | inr gone ↦ above.closed i j hi gone hj r
-      ];
-      needed = above.needed;
+    pub above_when_none_new : ((j : ℕ) → HasSlot new j → ⊥) → Above set at_most less_than found
+    above_when_none_new none = record {
+      within = λ j h. reaching.within j (inl h);
+      first = λ i j hi hj r. old (reaching.first i j hi hj r);
+      closed = λ i j hi hj r. old (reaching.closed i j hi hj r);
+      needed = λ number keeps m all j h. reaching.needed number keeps m all j (inl h);
     }
+      where
+        old : {j : ℕ} → HasSlot found j ⊎ HasSlot new j → HasSlot found j
+        old {j} h = elim h [ inl one ↦ one | inr one ↦ absurd (none j one) ]
 
-    -- the new ones are added
-    pub above_more : (more : Slots) → ((j : ℕ) → HasSlot more j ↔ (HasSlot found j ⊎ HasSlot new j)) → Above set at_most less_than (HasSlot new) more
-    above_more more is_more = record {
-      within = λ j h. elim ((is_more j).0 h) [ inl there ↦ above.within j there | inr one ↦ ((is_kept j).0 ((is_new j).0 one).0).1 ];
-      first = λ i j hi hj r. (is_more j).1 (inl (above.first i j hi hj r));
-      closed = λ i j hi done hj r. elim ((is_more i).0 hi) [
-        | inl there ↦ elim (cases_has old i) [
-          | inl one ↦ (is_more j).1 (followed i j one hj r)
-          | inr gone ↦ (is_more j).1 (inl (above.closed i j there gone hj r))
-        ]
-        | inr one ↦ absurd (done one)
-      ];
-      needed = λ number keeps m all j h. elim ((is_more j).0 h) [
-        | inl there ↦ above.needed number keeps m all j there
-        | inr one ↦
-            let from = (is_kept j).0 ((is_new j).0 one).0 in
-            let after_old = (is_after j).0 from.0 in
-            let there = inside after_old.0 after_old.1 in
-            let low = above.needed number keeps m all after_old.0 there in
-            let le = keeps.at_most after_old.0 j (above.within after_old.0 there) from.1 after_old.2 in
-            omega arith
-      ];
-    }
+    module _ (more : Slots) (is_more : (j : ℕ) → HasSlot more j ↔ (HasSlot found j ⊎ HasSlot new j)) where
+      pub found_grows : (i : ℕ) → HasSlot new i → 64 - size 64 more.bits < 64 - size 64 found.bits
+      found_grows i one =
+          let grows = more_slots found more i (λ j h. (is_more j).1 (inl h)) ((is_more i).1 (inr one)) (reaching.fresh i one) in
+          omega (arith, size_le 64 more.bits)
 
-    pub found_grows : (more : Slots) → ((j : ℕ) → HasSlot more j ↔ (HasSlot found j ⊎ HasSlot new j)) → (i : ℕ) → HasSlot new i
-        → 64 - size 64 more.bits < 64 - size 64 found.bits
-    found_grows more is_more i one =
-        let grows = more_slots found more i (λ j there. (is_more j).1 (inl there)) ((is_more i).1 (inr one)) ((is_new i).0 one).1 in
-        omega (arith, size_le 64 more.bits)
+      -- the new ones are found, and what comes after them is new in its turn
+      pub reaching_more : (after kept next : Slots) → ((j : ℕ) → HasSlot after j ↔ After new at_most j)
+          → ((j : ℕ) → HasSlot kept j ↔ (HasSlot after j × HasSlot set j)) → ((j : ℕ) → HasSlot next j ↔ (HasSlot kept j × (HasSlot more j → ⊥)))
+          → Reaching set at_most less_than more next
+      reaching_more after kept next is_after is_kept is_next = record {
+        fresh = λ j h. ((is_next j).0 h).1;
+        within = λ j h. elim h [ inl old ↦ reaching.within j ((is_more j).0 old) | inr one ↦ ((is_kept j).0 ((is_next j).0 one).0).1 ];
+        first = λ i j hi hj r. inl ((is_more j).1 (reaching.first i j hi hj r));
+        closed = λ i j hi hj r. elim ((is_more i).0 hi) [
+          | inl old ↦ inl ((is_more j).1 (reaching.closed i j old hj r))
+          | inr one ↦ elim (cases_has more j) [
+            | inl there ↦ inl there
+            | inr gone ↦ inr ((is_next j).1 ((is_kept j).1 ((is_after j).1 (i, one, r), hj), gone))
+          ]
+        ];
+        needed = λ number keeps m all j h. elim h [
+          | inl old ↦ reaching.needed number keeps m all j ((is_more j).0 old)
+          | inr one ↦
+              let both = (is_kept j).0 ((is_next j).0 one).0 in
+              let from = (is_after j).0 both.0 in
+              let low = reaching.needed number keeps m all from.0 (inr from.1) in
+              let le = keeps.at_most from.0 j (reaching.within from.0 (inr from.1)) both.1 from.2 in
+              omega arith
+        ];
+      }
 
 -- ---- the numbers
 
@@ -91,9 +99,9 @@ module _ (held : Slots) (at_most less_than : Pairs) where
     within = λ i h. h;
     high = λ i h. zeros i;
     low = λ i h gone. absurd (gone h);
-    weak = λ i j hi hj r. omega (arith, zeros i);
-    not_over = λ i j hi hj r. omega (arith, zeros i);
-    strict = λ i j hi gone hj r. absurd (gone hi);
+    keeps_at_most = λ i j hi hj r. omega (arith, zeros i);
+    nearly_less = λ i j hi hj r. omega (arith, zeros i);
+    keeps_less = λ i j hi gone hj r. absurd (gone hi);
     least = λ number keeps i h. omega (arith, zeros i);
     others = λ i gone. zeros i;
     room = omega (arith, size_le 64 held.bits);
@@ -104,7 +112,7 @@ module _ (held : Slots) (at_most less_than : Pairs) where
     pub least_when_none_left : ((i : ℕ) → HasSlot left i → ⊥) → LeastOfSlots held at_most less_than numbers
     least_when_none_left none = record {
       least = record {
-        keeps = record { at_most = rising.weak; less_than = λ i j hi hj r. rising.strict i j hi (none i) hj r };
+        keeps = record { at_most = rising.keeps_at_most; less_than = λ i j hi hj r. rising.keeps_less i j hi (none i) hj r };
         least = rising.least;
       };
       others = rising.others;
@@ -125,7 +133,7 @@ module _ (held : Slots) (at_most less_than : Pairs) where
       | inr gone ↦ let lower = rising.low j hj gone in let same = rising.high i hi in absurd (omega arith)
     ]
 
-    module _ (next : Slots) (above : Above left at_most less_than (λ _. ⊥) next) where
+    module _ (next : Slots) (above : Above left at_most less_than next) where
       module _ (stays : Slots) (is_stays : (i : ℕ) → HasSlot stays i ↔ (HasSlot left i × (HasSlot next i → ⊥))) where
         -- each slot left needs a greater number than another one left: its number would be above each number
         pub none_when_all_need_more : (k : ℕ) → HasSlot left k → ((i : ℕ) → HasSlot stays i → ⊥)
@@ -165,17 +173,17 @@ module _ (held : Slots) (at_most less_than : Pairs) where
               | inl one ↦ omega (arith, given.others i gone, rising.high i one)
               | inr before ↦ omega (arith, given.others i gone, rising.low i h before)
             ];
-            weak = λ i j hi hj r.
-                let le = rising.weak i j hi hj r in
-                still i j le (λ one. above.closed i j one (λ x. x) (also_left i j (above.within i one) hj le) r);
-            not_over = λ i j hi hj r.
-                let le = rising.not_over i j hi hj r in
+            keeps_at_most = λ i j hi hj r.
+                let le = rising.keeps_at_most i j hi hj r in
+                still i j le (λ one. above.closed i j one (also_left i j (above.within i one) hj le) r);
+            nearly_less = λ i j hi hj r.
+                let le = rising.nearly_less i j hi hj r in
                 still i j le (λ one. let was = above.within i one in above.first i j was (also_left i j was hj le) r);
-            strict = λ i j hi gone hj r. elim (cases_has left i) [
+            keeps_less = λ i j hi gone hj r. elim (cases_has left i) [
               | inl one ↦
-                  let raised = above.first i j one (also_left i j one hj (rising.not_over i j hi hj r)) r in
+                  let raised = above.first i j one (also_left i j one hj (rising.nearly_less i j hi hj r)) r in
                   omega (arith, given.others i gone, rising.high i one, given.given j raised)
-              | inr before ↦ omega (arith, given.others i gone, rising.strict i j hi before hj r, not_lower j)
+              | inr before ↦ omega (arith, given.others i gone, rising.keeps_less i j hi before hj r, not_lower j)
             ];
             least = λ number keeps i h. elim (cases_has next i) [
               | inl one ↦

@@ -8,7 +8,7 @@ use Rattle.std.specs.Prelude.{◌↔◌, bit_and, bit_or}
 use Rattle.std.specs.Int.{bit_at, bit_not, trailing_zeros}
 use Rattle.grades.specs.declared.slots.Slots.{Slots}
 use Rattle.grades.specs.Pairs.{HasSlot}
-use Rattle.grades.specs.Rising.{TakenOut, Emptiness, size}
+use Rattle.grades.specs.Sets.{TakenOut, Emptiness, size}
 
 -- the set that the bits are
 abbrev pub slots : ℕ → Slots

@@ -1,3 +1,4 @@
 pub mod Pairs
 pub mod Numbering
+pub mod Sets
 pub mod Rising

@@ -30,17 +30,15 @@ pub fn least_numbering(held: Slots, at_most: &Pairs, less_than: &Pairs) -> Optio
 
 // The slots of the set that need a greater number than some slot of it.
 fn above(set: Slots, at_most: &Pairs, less_than: &Pairs) -> Slots
-    ensures { Above set at_most.now less_than.now (λ _. ⊥) result }
+    ensures { Above set at_most.now less_than.now result }
 {
+    let mut found = Slots::new();
     let mut new = less_than.after(set).within(set);
-    let mut found = new;
-    loop {
-        new = at_most.after(new).within(set).without(found);
-        if new.is_empty() {
-            return found;
-        }
+    while !new.is_empty() {
         found = found.with(new);
+        new = at_most.after(new).within(set).without(found);
     }
+    found
 }
 
 // Gives the number to each slot of the set.

@@ -1,6 +1,6 @@
 ghost use Rattle.std.specs.Prelude.{ℕ, ◌<◌, ◌≡◌, ◌⊎◌, ◌↔◌, ◌≢◌, Decides};
 ghost use Rattle.grades.specs.Pairs.{HasSlot};
-ghost use Rattle.grades.specs.Rising.{Taken, Emptiness};
+ghost use Rattle.grades.specs.Sets.{Taken, Emptiness};
 
 /// A set of slots.
 #[derive(Clone, Copy)]

@@ -1,4 +1,5 @@
-use Rattle.grades.specs.Rising.{Rising, size}
+use Rattle.grades.specs.Sets.{size}
+use Rattle.grades.specs.Rising.{Rising}
 use Rattle.grades.proofs.numbering.least_numbering.Given as goal
 
 abbrev pub invariant-loop-left : goal.invariant-loop-left
