@@ -116,6 +116,10 @@ module _ (held : Slots) (at_most less_than : Pairs) where
         least = rising.least;
       };
       others = rising.others;
+      small = λ i. elim (cases_has held i) [
+        | inl one ↦ omega (arith, rising.low i one (none i), rising.room)
+        | inr gone ↦ omega (arith, rising.others i gone)
+      ];
     }
 
     -- a numbering of the slots held keeps the relations between those left too

@@ -15,10 +15,11 @@ pub record Least (Held : ℕ → Type 0) (AtMost LessThan : ℕ → ℕ → Type
   pub keeps : Keeps Held AtMost LessThan number
   pub least : (other : ℕ → ℕ) → Keeps Held AtMost LessThan other → (i : ℕ) → Held i → number i ≤ other i
 
--- the least numbering of the slots held, and 0 for each other slot
+-- the least numbering of the slots held, with 0 for each other slot, and no number over 63
 pub record LeastOfSlots (held : Slots) (at_most less_than : Pairs) (numbers : List ℕ) : Type 0 where
   pub least : Least (HasSlot held) (Related at_most) (Related less_than) (slice_index numbers)
   pub others : (i : ℕ) → (HasSlot held i → ⊥) → slice_index numbers i ≡ 0
+  pub small : (i : ℕ) → slice_index numbers i < 64
 
 -- what comes of numbering the slots held: the least numbering, or none where no numbering keeps the relations
 abbrev pub Numbered : Slots → Pairs → Pairs → Option (List ℕ) → Type 0

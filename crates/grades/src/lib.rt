@@ -1,4 +1,4 @@
-//! Two relations between the 64 slots of a shelf, and the least numbering of the slots that keeps them.
+//! Relations between 64 slots, which are numbered from 0 to 63, and the least numbering of slots that keeps two of them.
 #![tactic(auto)]
 
 mod numbering;

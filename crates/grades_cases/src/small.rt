@@ -26,6 +26,7 @@ const CYCLES: &str = "
     3<1 0<=1 1<=2 2<=0: 1 1 1 0
     3<4 4<2 0<=1 1<=2 2<=0: 2 2 2 0 1
     0<=1 1<=0 1<2 2<=3 3<=2: 0 0 1 1
+    0<1 1<=2 2<=1 2<3 4<=3: 0 1 1 2 0
 ";
 
 /// A cycle with a pair of which one is less than the other has no numbering, wherever else there may be one.
@@ -37,6 +38,7 @@ const DECLINED: &str = "
     0<=1 1<=2 2<=0 0<2: none
     0<1 1<2 3<4 4<=3: none
     5<6 0<0: none
+    0<1 1<=2 2<=1 2<3 4<=3 3<=2: none
 ";
 
 /// A slot is at most itself, and never less.
