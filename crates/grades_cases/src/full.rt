@@ -38,6 +38,15 @@ fn chains_of_all(rt: HostRuntime) {
     assert!(&rt; given.numbers().is_none());
 }
 
+/// That there is no numbering shows in the last round.
+#[test]
+fn declined_late(rt: HostRuntime) {
+    let mut given = Given::all();
+    given.less_than = chain();
+    given.less_than.put(63, 63);
+    assert!(&rt; given.numbers().is_none());
+}
+
 #[test]
 fn chains_of_equals(rt: HostRuntime) {
     let mut given = Given::all();
