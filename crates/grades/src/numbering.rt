@@ -1,7 +1,5 @@
 //! The least numbering. All slots begin at 0. Of those that have the highest number so far, the ones that need a greater one
 //! than some other of them are raised by one, until none is left; where all need a greater one, there is no numbering.
-ghost use Rattle.std.specs.Prelude.{◌≡◌};
-ghost use Rattle.grades.specs.Pairs.{HasSlot};
 ghost use Rattle.grades.specs.Numbering.{Numbered};
 ghost use Rattle.grades.specs.Rising.{Above, Given};
 

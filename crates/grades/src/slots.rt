@@ -1,4 +1,4 @@
-ghost use Rattle.std.specs.Prelude.{ℕ, ◌<◌, ◌≡◌, ◌⊎◌, ◌↔◌, ◌≢◌, Decides};
+ghost use Rattle.std.specs.Prelude.{ℕ, ◌<◌, ◌≡◌, ◌⊎◌, ◌↔◌, Decides};
 ghost use Rattle.grades.specs.Pairs.{HasSlot};
 ghost use Rattle.grades.specs.Sets.{Taken, Emptiness};
 
