@@ -92,15 +92,26 @@ pub(crate) struct Way<'a> {
 }
 
 /// Goes on from the node that a way leads to.
+#[cycle(searching)]
 pub(crate) fn search<R: Relation>(asked: &Question<R>, way: &Way, sheet: &mut Sheet) -> bool
     requires { let q = asked.now in OnWay R.KIND q.first.now q.second.now q.rigid way.now.sigma.now way.now.old.now way.now.rest.now }
     ensures { let q = asked.now in Searched result R.KIND q.first.now q.second.now q.rigid way.now.sigma.now way.now.old.now sheet.old sheet.new }
 {
-    let i = match see(asked, way, sheet) {
-        Sight::Found => return true,
-        Sight::Shut => return false,
-        Sight::Next(i) => i,
-    };
+    match see(asked, way, sheet) {
+        Sight::Found => true,
+        Sight::Shut => false,
+        Sight::Next(i) => branch(asked, way, i, sheet),
+    }
+}
+
+// Goes on with an atom that remains: it is new, or left old. (A function of its own, since the lists that it needs would be
+// made at every node, and most nodes end the search or are shut.)
+#[cycle(searching)]
+fn branch<R: Relation>(asked: &Question<R>, way: &Way, i: usize, sheet: &mut Sheet) -> bool
+    requires node { let q = asked.now in OnWay R.KIND q.first.now q.second.now q.rigid way.now.sigma.now way.now.old.now way.now.rest.now }
+    requires next { i < length way.now.rest.now }
+    ensures { let q = asked.now in Searched result R.KIND q.first.now q.second.now q.rigid way.now.sigma.now way.now.old.now sheet.old sheet.new }
+{
     let next = way.rest[i];
     let mut others = ArrayVec::new();
     let rest = without(way.rest, i, &mut others);

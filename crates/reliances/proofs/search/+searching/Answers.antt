@@ -3,24 +3,24 @@ use Rattle.std.proofs.lemmas.List.{take_all}
 use Rattle.rules.specs.Logic.{Each}
 use Rattle.reliances.proofs.Nodes.{no_atom, each_taken}
 use Rattle.reliances.proofs.SearchSteps.{room, room_all, taken, fewer, NotJoined, not_unified, not_followed, next_old, next_new, next_in, searched_old}
-use Rattle.reliances.proofs.search.+search.Goals.{in-Some+else-search, in_default}
-use Rattle.reliances.proofs.search.+search.Goals as goal
+use Rattle.reliances.proofs.search.+searching.Goals.{branch-in-Some+else-search, branch-in_default}
+use Rattle.reliances.proofs.search.+searching.Goals as goal
 
-pub without-rest-requires : goal.without-rest-requires
-without-rest-requires g t c =
+pub branch-without-rest-requires : goal.branch-without-rest-requires
+branch-without-rest-requires g t c =
     let q = c.args.asked.now in
     let way = c.args.way.now in
-    let few = room_all g.R.Relation.KIND q.first.now q.second.now q.rigid way.sigma.now way.old.now way.rest.now c.requires in
-    (c.in-Next.ensures.0, omega (arith, few), c.new-others.ensures)
+    let few = room_all g.R.Relation.KIND q.first.now q.second.now q.rigid way.sigma.now way.old.now way.rest.now c.requires.node in
+    (c.requires.next, omega (arith, few), c.new-others.ensures)
 
-pub search-requires : goal.search-requires
-search-requires g t c κs within =
+pub branch-search-requires : goal.branch-search-requires
+branch-search-requires g t c κs within =
     let q = c.args.asked.now in
     let way = c.args.way.now in
-    let i = c.in-Next.i in
+    let i = c.args.i in
     let rest = c.without-rest.result.now in
-    let node = taken g.R.Relation.KIND q.first.now q.second.now q.rigid q.flags way.sigma.now way.old.now way.rest.now rest i c.in-Next.ensures.0 c.without-rest.ensures c.requires in
-    let shorter = fewer g.R.Relation.KIND q.first.now q.second.now q.rigid q.flags way.sigma.now way.old.now way.rest.now rest i c.in-Next.ensures.0 c.without-rest.ensures in (
+    let node = taken g.R.Relation.KIND q.first.now q.second.now q.rigid q.flags way.sigma.now way.old.now way.rest.now rest i c.requires.next c.without-rest.ensures c.requires.node in
+    let shorter = fewer g.R.Relation.KIND q.first.now q.second.now q.rigid q.flags way.sigma.now way.old.now way.rest.now rest i c.requires.next c.without-rest.ensures in (
       omega (arith, shorter, c.decreases),
       (
         within,
@@ -29,47 +29,47 @@ search-requires g t c κs within =
       ),
     )
 
-pub loop-head-preserved : goal.loop-head-preserved
-loop-head-preserved g t c =
+pub branch-loop-head-preserved : goal.branch-loop-head-preserved
+branch-loop-head-preserved g t c =
     let q = c.args.asked.now in
     let way = c.args.way.now in
     let heads = c.head-head-items.result.now in
     let i = c.loop-head.head-index in
-    let next = get_or way.rest.now c.in-Next.i no_atom in
+    let next = get_or way.rest.now c.args.i no_atom in
     let more = each_taken (NotJoined g.R.Relation.KIND q.first.now q.second.now q.rigid way.sigma.now way.old.now next) heads i no_atom c.loop-head-test.true c.loop-head.invariant.1 in
     elim c.match-unify.branch [
-      | in-Some+else-search w ↦
+      | branch-in-Some+else-search w ↦
           let left = w.if-search.ensures in (
             w.sheet-is ∙ left.1 ∙ c.loop-head.invariant.0,
             more
                 (not_followed g.R.Relation.KIND q.first.now q.second.now q.rigid q.flags way.sigma.now way.old.now next (get_or heads i no_atom) w.in-Some.sigma
                 w.in-Some.ensures left.0),
           )
-      | in_default w ↦ (
+      | branch-in_default w ↦ (
         w.sheet-is ∙ c.loop-head.invariant.0,
         more
             (not_unified g.R.Relation.KIND q.first.now q.second.now q.rigid q.flags way.sigma.now way.old.now next (get_or heads i no_atom) w.in_default.ensures),
       )
     ]
 
-pub together-old-requires : goal.together-old-requires
-together-old-requires g t c =
+pub branch-together-old-requires : goal.branch-together-old-requires
+branch-together-old-requires g t c =
     let q = c.args.asked.now in
     let way = c.args.way.now in
-    let i = c.in-Next.i in
+    let i = c.args.i in
     let rest = c.without-rest.result.now in
-    let node = taken g.R.Relation.KIND q.first.now q.second.now q.rigid q.flags way.sigma.now way.old.now way.rest.now rest i c.in-Next.ensures.0 c.without-rest.ensures c.requires in
+    let node = taken g.R.Relation.KIND q.first.now q.second.now q.rigid q.flags way.sigma.now way.old.now way.rest.now rest i c.requires.next c.without-rest.ensures c.requires.node in
     let few = room g.R.Relation.KIND q.first.now q.second.now q.rigid way.sigma.now way.old.now rest (get_or way.rest.now i no_atom) node in
     omega (arith, few)
 
-pub search-requires-2 : goal.search-requires-2
-search-requires-2 g t c κs within =
+pub branch-search-requires-2 : goal.branch-search-requires-2
+branch-search-requires-2 g t c κs within =
     let q = c.args.asked.now in
     let way = c.args.way.now in
-    let i = c.in-Next.i in
+    let i = c.args.i in
     let rest = c.without-rest.result.now in
-    let node = taken g.R.Relation.KIND q.first.now q.second.now q.rigid q.flags way.sigma.now way.old.now way.rest.now rest i c.in-Next.ensures.0 c.without-rest.ensures c.requires in
-    let shorter = fewer g.R.Relation.KIND q.first.now q.second.now q.rigid q.flags way.sigma.now way.old.now way.rest.now rest i c.in-Next.ensures.0 c.without-rest.ensures in (
+    let node = taken g.R.Relation.KIND q.first.now q.second.now q.rigid q.flags way.sigma.now way.old.now way.rest.now rest i c.requires.next c.without-rest.ensures c.requires.node in
+    let shorter = fewer g.R.Relation.KIND q.first.now q.second.now q.rigid q.flags way.sigma.now way.old.now way.rest.now rest i c.requires.next c.without-rest.ensures in (
       omega (arith, shorter, c.decreases),
       (
         within,
@@ -78,19 +78,19 @@ search-requires-2 g t c κs within =
       ),
     )
 
-pub returns : goal.returns
-returns g t c =
+pub branch-returns : goal.branch-returns
+branch-returns g t c =
     let q = c.args.asked.now in
     let way = c.args.way.now in
     let heads = c.head-head-items.result.now in
-    let i = c.in-Next.i in
+    let i = c.args.i in
     let rest = c.without-rest.result.now in
     let next = get_or way.rest.now i no_atom in
-    let node = taken g.R.Relation.KIND q.first.now q.second.now q.rigid q.flags way.sigma.now way.old.now way.rest.now rest i c.in-Next.ensures.0 c.without-rest.ensures c.requires in
+    let node = taken g.R.Relation.KIND q.first.now q.second.now q.rigid q.flags way.sigma.now way.old.now way.rest.now rest i c.requires.next c.without-rest.ensures c.requires.node in
     searched_old g.R.Relation.KIND q.first.now q.second.now q.rigid q.flags way.sigma.now c.search-2.result c.args.sheet.now c.loop-head.sheet c.search-2.new.sheet way.old.now c.deref.result.now heads next
     (next_in g.R.Relation.KIND q.first.now q.second.now q.rigid q.flags way.sigma.now way.old.now rest next node)
     c.head-head-items.ensures.same
     (subst (Each (NotJoined g.R.Relation.KIND q.first.now q.second.now q.rigid way.sigma.now way.old.now next)) (take_all c.loop-head.head-index heads c.loop-head-test.false) c.loop-head.invariant.1)
     (c.deref.ensures.0 ∙ c.together-old.ensures)
-    (c.loop-head.invariant.0 ∙ c.in-Next.ensures.1)
+    c.loop-head.invariant.0
     c.search-2.ensures
