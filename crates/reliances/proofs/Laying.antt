@@ -1,6 +1,6 @@
 -- What lists hold that atoms are added to, part after part, and what these mean.
 -- Assumes nothing.
-use Rattle.std.proofs.Common.{◌≡◌, List, [], ◌∷◌, ◌++◌, map, refl, ap, ◌∙◌, subst}
+use Rattle.std.proofs.Common.{◌≡◌, List, [], ◌∷◌, ◌++◌, length, map, take, refl, ap, ◌∙◌, subst}
 use Rattle.std.proofs.lemmas.List.{append_assoc}
 use Rattle.rules.specs.declared.Term.{Term}
 use Rattle.rules.specs.declared.Atom.{Atom}
@@ -8,6 +8,12 @@ use Rattle.rules.specs.Logic.{Formula, formula_of}
 use Rattle.rules.specs.Matches.{Assignment, under}
 use Rattle.matches.specs.Lists.{look, formulas, under_atom}
 use Rattle.matches.proofs.Steps.{of_under}
+
+-- the part that was laid first
+pub take_first : {X : Type 0} (xs ys : List X) → take (length xs) (xs ++ ys) ≡ xs
+take_first [] [] = refl
+take_first [] (y ∷ ys) = refl
+take_first (x ∷ xs) ys = ap (λ z. x ∷ z) (take_first xs ys)
 
 -- what atoms under h mean
 pub all_under : (h : Assignment) (xs : List Atom) → formulas (map (under_atom h) xs) ≡ map (under h) (formulas xs)

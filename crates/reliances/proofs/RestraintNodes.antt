@@ -23,15 +23,9 @@ use Rattle.reliances.specs.RestraintSearch.{shift_by, shift_atom, laid_before, l
 use Rattle.reliances.proofs.Unify.{elim_true, elim_false}
 use Rattle.reliances.proofs.Slots.{decides_rigid}
 use Rattle.matches.proofs.Steps.{of_under}
-use Rattle.reliances.proofs.Laying.{all_under, along}
+use Rattle.reliances.proofs.Laying.{take_first, all_under, along}
 use Rattle.reliances.proofs.Nodes.{flag_below}
 use Rattle.reliances.proofs.Restraint as restraint
-
--- the part of a list that was laid first
-pub take_first : {X : Type 0} (xs ys : List X) → take (length xs) (xs ++ ys) ≡ xs
-take_first [] [] = refl
-take_first [] (y ∷ ys) = refl
-take_first (x ∷ xs) ys = ap (λ z. x ∷ z) (take_first xs ys)
 
 -- what h makes of a head
 pub given_is : (B : Rule) (h : Assignment) (head given : List Atom) → head ≡ head_of B.parts → given ≡ map (under_atom h) head → formulas given ≡ map (under h) (meaning B).head

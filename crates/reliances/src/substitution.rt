@@ -49,23 +49,18 @@ pub(crate) fn wide_slots(sigma: &[Term; 36]) -> &[Term]
     &sigma[12..]
 }
 
-// Whether a slot keeps its null: it is that of an existential variable of a rule that is applied.
-fn keeps_null(kind: Kind, a: &Rule, b: &Rule, slot: u16) -> bool
-    ensures { result ≡ rigid_for kind (meaning a.now) (meaning b.now) slot }
-{
-    // A match on the kind: as a step of the trait `Relation` it would be said in two places, and no plainer.
-    match kind {
-        _ if slot < 12 => a.is_existential(slot),
-        Kind::Positive => false,
-        Kind::Restraint => b.is_existential(slot - 12),
-    }
-}
-
-/// The slots that keep their nulls in a search.
+/// The slots that keep their nulls in a search: those of the existential variables of a rule that is applied.
 pub(crate) fn rigid_slots(kind: Kind, a: &Rule, b: &Rule) -> [bool; 36]
     ensures { FlagsAre result (rigid_for kind (meaning a.now) (meaning b.now)) }
 {
-    array::from_fn(|slot| keeps_null(kind, a, b, slot as u16))
+    let mut rigid = [false; 36];
+    rigid[..12].copy_from_slice(a.existential_flags());
+    // A match on the kind: as a step of the trait `Relation` it would be said in two places, and no plainer.
+    match kind {
+        Kind::Positive => {}
+        Kind::Restraint => rigid[12..24].copy_from_slice(b.existential_flags()),
+    }
+    rigid
 }
 
 fn is_rigid(t: Term, rigid: &[bool]) -> bool

@@ -1,6 +1,6 @@
 ghost use Rattle.std.specs.Prelude.{◌≡◌, Decides};
 ghost use Rattle.rules.specs.Logic.{Universal, Existential};
-ghost use Rattle.rules.specs.Bounds.{body_of, head_of, MakesRule, Rearranged, universal?, existential?};
+ghost use Rattle.rules.specs.Bounds.{body_of, head_of, MakesRule, Rearranged, FlagsAre, universal?, existential?};
 ghost use Rattle.rules.specs.Rules.{MadeOf, meaning, order_of};
 
 use crate::order::arranged;
@@ -61,6 +61,13 @@ impl Rule {
         ensures decides { Decides result (Universal (meaning self.now) v) }
     {
         is_flagged(&self.universal, v)
+    }
+
+    /// The flags of the existential variables.
+    pub fn existential_flags(&self) -> &[bool; 12]
+        ensures { FlagsAre result.now (existential? (meaning self.now)) }
+    {
+        &self.existential
     }
 
     /// Whether the variable stands in the head, and not in the body.
