@@ -115,8 +115,9 @@ fn branch<R: Relation>(asked: &Question<R>, way: &Way, i: usize, sheet: &mut She
     let next = way.rest[i];
     let mut others = ArrayVec::new();
     let rest = without(way.rest, i, &mut others);
+    let mut sigma = *way.sigma;
     for head in asked.first.head() {
-        if let Some(sigma) = unify(head, &next, way.sigma, &asked.rigid) {
+        if let Some(()) = unify(head, &next, way.sigma, &asked.rigid, &mut sigma) {
             let joined = Way {
                 sigma: &sigma,
                 rest,

@@ -46,7 +46,6 @@ pub(crate) fn slot_value(t: Term, sigma: &[Term], from: usize) -> Term
     }
 }
 
-// The slots are written in place: one copy of the 36 is made for each pair of atoms, in `unify`.
 fn unify_term(sigma: &mut [Term], rigid: &[bool], s: Term, t: Term) -> Option<()>
     ensures { option_map (λ _. sigma.new) result ≡ unify (flags rigid.now) sigma.old s t }
 {
@@ -80,14 +79,21 @@ fn unify_terms(a: &[Term], b: &[Term], sigma: &mut [Term], rigid: &[bool]) -> Op
     Some(())
 }
 
-/// The slots that make an atom of the first rule and one of the second equal, where some do.
-pub(crate) fn unify(a: &Atom, b: &Atom, sigma: &[Term; 36], rigid: &[bool]) -> Option<[Term; 36]>
-    ensures { result ≡ unify_formulas (flags rigid.now) 0 12 (formula_of a.now) (formula_of b.now) sigma.now }
+/// Makes an atom of the first rule and one of the second equal, where that can be: `tau` is then `sigma`, so changed. Where it
+/// cannot, what `tau` holds is of no use. (It is lent, and no result: an `Option` of 36 slots is blanked for each pair of atoms
+/// that differ.)
+pub(crate) fn unify(
+    a: &Atom,
+    b: &Atom,
+    sigma: &[Term; 36],
+    rigid: &[bool],
+    tau: &mut [Term; 36],
+) -> Option<()>
+    ensures { option_map (λ _. tau.new) result ≡ unify_formulas (flags rigid.now) 0 12 (formula_of a.now) (formula_of b.now) sigma.now }
 {
     if a.predicate != b.predicate {
         return None;
     }
-    let mut tau = *sigma;
-    unify_terms(a.args(), b.args(), &mut tau, rigid)?;
-    Some(tau)
+    *tau = *sigma;
+    unify_terms(a.args(), b.args(), tau, rigid)
 }

@@ -25,7 +25,7 @@ branch-search-requires g t c κs within =
       (
         within,
         (next_new g.R.Relation.KIND q.first.now q.second.now q.rigid q.flags way.sigma.now way.old.now rest (get_or way.rest.now i no_atom) node
-            c.in-Some.sigma c.head-head-items.result.now c.loop-head.head-index c.head-head-items.ensures.same c.loop-head-test.true c.in-Some.ensures),
+            c.unify.new.tau c.head-head-items.result.now c.loop-head.head-index c.head-head-items.ensures.same c.loop-head-test.true c.in-Some.ensures),
       ),
     )
 
@@ -42,7 +42,7 @@ branch-loop-head-preserved g t c =
           let left = w.if-search.ensures in (
             w.sheet-is ∙ left.1 ∙ c.loop-head.invariant.0,
             more
-                (not_followed g.R.Relation.KIND q.first.now q.second.now q.rigid q.flags way.sigma.now way.old.now next (get_or heads i no_atom) w.in-Some.sigma
+                (not_followed g.R.Relation.KIND q.first.now q.second.now q.rigid q.flags way.sigma.now way.old.now next (get_or heads i no_atom) c.unify.new.tau
                 w.in-Some.ensures left.0),
           )
       | branch-in_default w ↦ (
