@@ -44,10 +44,15 @@ fn answer(kind: Kind, first: &Rule, second: &Rule, sheet: &mut Sheet) -> bool
 fn ask_reliance(first: &Rule, second: &Rule, sheet: &mut Sheet) -> bool
     ensures { Answered result Positive first.now second.now sheet.old sheet.new }
 {
+    share_predicate(first.head(), second.body()) && search_reliance(first, second, sheet)
+}
+
+// Apart, so that nothing is made ready for a search where the predicates rule the relation out.
+#[inline(never)]
+fn search_reliance(first: &Rule, second: &Rule, sheet: &mut Sheet) -> bool
+    ensures { Answered result Positive first.now second.now sheet.old sheet.new }
+{
     let body = second.body();
-    if !share_predicate(first.head(), body) {
-        return false;
-    }
     let asked = Question::<Relies>::new(first, second, body.len());
     begin(&asked, body, sheet)
 }
@@ -56,9 +61,13 @@ fn ask_reliance(first: &Rule, second: &Rule, sheet: &mut Sheet) -> bool
 fn ask_restraint(first: &Rule, second: &Rule, sheet: &mut Sheet) -> bool
     ensures { Answered result Restraint first.now second.now sheet.old sheet.new }
 {
-    if !share_open(first, second) {
-        return false;
-    }
+    share_open(first, second) && search_restraint(first, second, sheet)
+}
+
+#[inline(never)]
+fn search_restraint(first: &Rule, second: &Rule, sheet: &mut Sheet) -> bool
+    ensures { Answered result Restraint first.now second.now sheet.old sheet.new }
+{
     let open = open_atoms(second);
     let asked = Question::<Restrains>::new(first, second, open.len());
     let mut read: ArrayVec<Atom, 4> = ArrayVec::new();

@@ -1,34 +1,13 @@
-use Rattle.std.proofs.Common.{[], map, sym, refl, ap, ◌∙◌, subst}
-use Rattle.std.specs.List.{filter}
-use Rattle.rules.specs.declared.rule.Rule.{Rule}
-use Rattle.rules.specs.Logic.{Each}
+use Rattle.std.proofs.Common.{sym, refl, ◌∙◌, subst}
 use Rattle.rules.specs.Rules.{meaning}
-use Rattle.matches.specs.Lists.{formulas}
-use Rattle.reliances.specs.Following.{Small}
-use Rattle.reliances.specs.Unification.{shift_formula}
-use Rattle.reliances.specs.RestraintSearch.{opens?, shift_atom}
-use Rattle.reliances.proofs.Nodes.{kept_small}
-use Rattle.reliances.proofs.Laying.{laid_one}
-use Rattle.reliances.proofs.RestraintNodes.{shift_atoms}
+use Rattle.reliances.specs.declared.sheet.Kind.TheVariants.{Restraint}
+use Rattle.reliances.specs.Sheets.{Answered}
 use Rattle.reliances.proofs.Restraint.{no_shared}
 use Rattle.reliances.proofs.asking.ask_restraint.Goals as goal
 
-pub returns-then-not-share_open : goal.returns-then-not-share_open
-returns-then-not-share_open c =
-    (no_shared (meaning c.args.first.now) (meaning c.args.second.now) (sym c.share_open.ensures ∙ c.if-not-share_open.true), refl)
-
-pub begin-requires-clause-all : goal.begin-requires-clause-all
-begin-requires-clause-all c =
-    let q = c.new-asked.result in
-    let atoms = c.deref.result.now in
-    ap formulas (c.deref-2.ensures.0 ∙ laid_one _ c.push_each.new.into.items _ atoms c.new-read.ensures c.push_each.ensures)
-    ∙ shift_atoms q.first.now q.second.now [] [] q.rigid q.flags atoms
-    ∙ ap (λ z. map (shift_formula (meaning q.second.now)) (formulas z)) c.deref.ensures.0
-    ∙ ap (map (shift_formula (meaning q.second.now))) c.open_atoms-open.ensures.same
-    ∙ ap (λ (r : Rule). map (shift_formula (meaning q.second.now)) (filter (opens? (meaning r)) (meaning r).head)) (sym c.new-asked.ensures.1)
-
-pub begin-requires-clause-small : goal.begin-requires-clause-small
-begin-requires-clause-small c =
-    subst (Each Small)
-    (sym (c.deref-2.ensures.0 ∙ laid_one _ c.push_each.new.into.items _ c.deref.result.now c.new-read.ensures c.push_each.ensures))
-    (kept_small (shift_atom c.new-asked.result.rigid) (λ a. refl) c.deref.result.now (subst (Each Small) (sym c.deref.ensures.0) c.open_atoms-open.ensures.small))
+pub returns-else-share_open : goal.returns-else-share_open
+returns-else-share_open c =
+    let A = c.args.first.now in
+    let B = c.args.second.now in
+    subst (λ r. Answered r Restraint A B c.args.sheet.now c.args.sheet.now) (sym c.if-share_open.false)
+    (no_shared (meaning A) (meaning B) (sym c.share_open.ensures ∙ c.if-share_open.false), refl)
