@@ -1,0 +1,3 @@
+pub mod Listed
+pub mod CheckedRows
+pub mod Laid

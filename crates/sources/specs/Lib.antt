@@ -1,0 +1,5 @@
+pub mod Sources
+pub mod Rows
+pub mod Additions
+pub mod Few
+pub mod VolumeFacts

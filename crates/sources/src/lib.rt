@@ -1,0 +1,19 @@
+//! Sources of facts: what all of them mean, three kinds of them, and the search for a rule's matches on any of them.
+#![tactic(auto)]
+
+mod addition;
+mod addition_source;
+mod own_facts;
+mod row_source;
+mod row_table;
+mod rows;
+mod source;
+mod volume_source;
+
+pub use addition::Addition;
+pub use row_table::RowTable;
+pub use rows::check_rows;
+pub use source::FactSource;
+
+/// How many facts a source has at most.
+pub const MOST: usize = 4096;

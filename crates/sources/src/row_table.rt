@@ -1,0 +1,29 @@
+//! Rows as a source.
+ghost use Rattle.std.specs.Prelude.{◌≡◌, ◌≤◌, true, length};
+ghost use Rattle.rules.specs.Bounds.{every};
+ghost use Rattle.matches.specs.Lists.{formulas};
+ghost use Rattle.matches.specs.Matching.{fact_atom?};
+ghost use Rattle.sources.specs.Rows.{RowsTaken};
+
+use crate::rows::check_rows;
+use rules::Atom;
+
+/// Rows that are taken up. Those that fail the check are taken up as no rows.
+#[derive(Clone, Copy)]
+pub struct RowTable<'a> {
+    pub(crate) rows: &'a [Atom],
+    ghost few: { length rows.now ≤ 4096 },
+    ghost facts: { every fact_atom? rows.now ≡ true },
+}
+
+impl<'a> RowTable<'a> {
+    /// The table of the rows; one of no rows where they fail the check.
+    pub fn take_up(rows: &'a [Atom]) -> RowTable<'a>
+        ensures { RowsTaken rows.now (formulas result.rows.now) }
+    {
+        let Ok(()) = check_rows(rows) else {
+            return RowTable { rows: &[] };
+        };
+        RowTable { rows }
+    }
+}
