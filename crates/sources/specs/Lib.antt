@@ -3,3 +3,5 @@ pub mod Rows
 pub mod Additions
 pub mod Few
 pub mod VolumeFacts
+pub mod Ways
+pub mod Searching

@@ -1,13 +1,18 @@
 -- That the facts of a fact volume are at most 2,048, each a fact. Here and not in `proofs/`, since the source itself says so.
-use Rattle.std.specs.Prelude.{◌≡◌, ℕ, ◌+◌, ◌≤◌, List, length, Ok, Err, Result, nat_eq}
+use Rattle.std.specs.Prelude.{◌≡◌, ℕ, ◌+◌, ◌≤◌, List, length, Ok, Err, Result, nat_eq, nat_le}
 use Rattle.std.proofs.Common.{sym, subst, refl, ap, ◌∙◌}
 use Rattle.std.proofs.lemmas.Bool.{leb-true, false≢true}
+use Rattle.std.proofs.lemmas.Bool.Decides.{Decides-and}
 use Rattle.std.proofs.Math.Nat.{le_trans}
 use Rattle.rules.specs.declared.Term.{Term}
 use Rattle.rules.specs.declared.Term.TheVariants.{Constant, Variable, Null}
 use Rattle.rules.specs.Logic.{Formula}
 use Rattle.rules.specs.Matches.{Ground, IsFact}
 use Rattle.faults.specs.declared.Fault.{Fault}
+use Rattle.rules.proofs.Bounded.{decides_leb}
+use Rattle.rules.proofs.Membership.{decides_every}
+use Rattle.matches.specs.Matching.{is_ground}
+use Rattle.matches.proofs.Literal.{decides_ground, decides_fact}
 use Rattle.volumes.specs.Layout.{first_byte_of, TermAt, TermSays, AtomSays, FactEntry, span}
 use Rattle.volumes.specs.Reading.{read_facts}
 use Rattle.volumes.specs.Answers.{taken}
@@ -24,11 +29,15 @@ term_ground k two bs p (Null n) h = tt
 
 atom_fact : (k : _) → first_byte_of k ≡ 2 → (bs : List ℕ) (e p : ℕ) (a : Formula) → AtomSays k bs e p (Ok a) → IsFact a
 atom_fact k two bs e p a h =
-    record {
-      some = subst (λ n. 1 ≤ n) (sym h.terms.0) h.begins.arity.some;
-      few = subst (λ n. n ≤ 4) (sym h.terms.0) h.begins.arity.few;
-      ground = stand_each (λ _ q t. TermSays k bs e q t) (λ _ q _. q + 3) Ground (λ _ q t s. term_ground k two bs q t s.1) 0 (p + 3) a.terms _ h.terms.1;
-    }
+    let n = length a.terms in
+    (decides_fact a).0
+    ((Decides-and (nat_le 1 n) _ (decides_leb 1 n) (Decides-and (nat_le n 4) _ (decides_leb n 4) (decides_every is_ground Ground decides_ground a.terms))).1 (
+      subst (λ m. 1 ≤ m) (sym h.terms.0) h.begins.arity.some,
+      (
+        subst (λ m. m ≤ 4) (sym h.terms.0) h.begins.arity.few,
+        stand_each (λ _ q t. TermSays k bs e q t) (λ _ q _. q + 3) Ground (λ _ q t s. term_ground k two bs q t s.1) 0 (p + 3) a.terms _ h.terms.1,
+      ),
+    ))
 
 few_read : (bs : List ℕ) (r : Result (List Formula) Fault) → read_facts bs ≡ r → FewFacts (taken r)
 few_read bs (Ok xs) is =

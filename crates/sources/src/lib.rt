@@ -3,10 +3,12 @@
 
 mod addition;
 mod addition_source;
+mod known;
 mod own_facts;
 mod row_source;
 mod row_table;
 mod rows;
+mod search;
 mod source;
 mod volume_source;
 
