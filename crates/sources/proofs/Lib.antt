@@ -6,3 +6,4 @@ pub mod Terms
 pub mod Order
 pub mod Turns
 pub mod Standing
+pub mod Ways

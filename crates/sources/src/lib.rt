@@ -4,6 +4,7 @@
 mod addition;
 mod addition_source;
 mod known;
+mod matching;
 mod own_facts;
 mod row_source;
 mod row_table;
@@ -13,6 +14,7 @@ mod source;
 mod volume_source;
 
 pub use addition::Addition;
+pub use matching::{first_match, is_satisfied, next_match};
 pub use row_table::RowTable;
 pub use rows::check_rows;
 pub use source::FactSource;
