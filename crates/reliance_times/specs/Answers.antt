@@ -1,7 +1,5 @@
 -- What an answer says, and what is printed of it.
-use Rattle.std.specs.Prelude.{ℕ, ◌≤◌, List, ◌++◌, codes, decimal}
-use Rattle.std.specs.declared.num.NonZeroU32.{NonZeroU32}
-use Rattle.std.specs.Int.NonZero.{non_zero_u32_get}
+use Rattle.std.specs.Prelude.{ℕ, List, ◌++◌, codes, decimal}
 use Rattle.rules.specs.declared.rule.Rule.{Rule}
 use Rattle.reliances.specs.declared.sheet.Kind.{Kind}
 use Rattle.reliances.specs.declared.sheet.Kind.TheVariants.{Positive, Restraint}
@@ -28,7 +26,3 @@ kind_text Restraint = codes "R"
 -- the two rules' numbers, and the letter of the relation
 abbrev pub asked_text : ℕ → ℕ → Kind → List ℕ
 asked_text first second kind = decimal first ++ (codes " " ++ (decimal second ++ (codes " " ++ kind_text kind)))
-
--- a number of rounds is at most a million
-abbrev pub Few : NonZeroU32 → Type 0
-Few n = non_zero_u32_get n ≤ 1000000

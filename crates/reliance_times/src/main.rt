@@ -4,25 +4,14 @@
 #![tactic(auto)]
 
 mod asked;
-mod rounds;
 
 use asked::Asked;
 use reliances::Kind;
-use rounds::read_rounds;
-use std::alloc::Global;
-use std::io::{self, Read};
+use std::io;
 use std::num::NonZeroU32;
 use std::time::Clock;
+use timed::{read_rounds, read_volume};
 use volumes::{NumberedRule, RuleVolume, check_rules};
-
-/// Longer input is cut here.
-const MOST_BYTES: u64 = 65536;
-
-fn read_volume(input: impl Read + Drop, heap: Global) -> io::Result<Vec<u8>> {
-    let mut bytes = Vec::new(heap);
-    input.take(MOST_BYTES).read_to_end(&mut bytes)?;
-    Ok(bytes)
-}
 
 /// Prints a line for the question, with the time where rounds are given.
 fn print_line<R: Print + Clock>(

@@ -1,6 +1,6 @@
-//! How often each question is asked.
+//! How often what is timed is done.
 ghost use Rattle.std.specs.Prelude.{IfOk, IfSome};
-ghost use Rattle.reliance_times.specs.Answers.{Few};
+ghost use Rattle.timed.specs.Rounds.{Few};
 
 use std::env::Env;
 use std::num::NonZeroU32;
