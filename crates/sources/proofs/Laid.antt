@@ -1,7 +1,7 @@
 -- The facts of an addition, and their places.
 -- Assumes nothing.
-use Rattle.std.proofs.Common.{◌≡◌, ℕ, ◌+◌, ◌-◌, ◌<◌, ◌≤◌, min, List, ◌++◌, length, get_or, sym, subst, ap, ◌∙◌, arith}
-use Rattle.std.proofs.lemmas.List.{length-take, length-map, length-append, get_or-take, get_or-map, get_or_append_left, get_or-append_right}
+use Rattle.std.proofs.Common.{◌≡◌, ℕ, ◌+◌, ◌-◌, ◌<◌, ◌≤◌, min, List, [], ◌++◌, length, take, get_or, sym, subst, ap, ◌∙◌, arith}
+use Rattle.std.proofs.lemmas.List.{append-nil, take_all, length-take, length-map, length-append, get_or-take, get_or-map, get_or_append_left, get_or-append_right}
 use Rattle.rules.specs.declared.Atom.{Atom}
 use Rattle.rules.specs.Logic.{Formula, formula_of}
 use Rattle.matches.specs.Lists.{formulas}
@@ -10,6 +10,10 @@ use Rattle.sources.specs.Additions.{laid_over}
 
 pub length_laid : (below own : List Formula) → length (laid_over below own) ≡ min 4096 (length below + length own)
 length_laid below own = length-take 4096 (below ++ own) ∙ ap (min 4096) (length-append below own)
+
+-- nothing is laid over
+pub laid_nothing : (below : List Formula) → length below ≤ 4096 → laid_over below [] ≡ below
+laid_nothing below few = ap (take 4096) (append-nil below) ∙ take_all 4096 below few
 
 -- a fact below
 pub laid_below : (below own : List Formula) (i : ℕ) (a : Formula) → length below ≤ 4096 → Nth below i a → Nth (laid_over below own) i a

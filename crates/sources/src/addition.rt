@@ -18,8 +18,8 @@ pub struct Addition<S: FactSource> {
 impl<S: FactSource> Addition<S> {
     /// An addition that holds no facts of its own.
     pub fn new(below: S) -> Addition<S>
+        ensures same { ⟦<Addition<S> as FactSource>⟧.facts result ≡ S.facts below }
         ensures below { result.below ≡ below }
-        ensures own { own_atoms result.own ≡ [] }
     {
         Addition {
             below,

@@ -11,6 +11,8 @@ mod row_table;
 mod rows;
 mod search;
 mod source;
+#[cfg(test)]
+mod tests;
 mod volume_source;
 
 pub use addition::Addition;
