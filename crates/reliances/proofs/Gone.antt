@@ -1,12 +1,15 @@
 -- The atoms that a search for a restraint goes through, as they are picked one after the other.
 -- Assumes nothing.
-use Rattle.std.proofs.Common.{◌≡◌, ℕ, ◌+◌, ◌<◌, ◌≤◌, Bool, true, false, cond, ◌&&◌, ◌||◌, List, [], ◌∷◌, ◌++◌, length, get_or, take, sym, refl, ap, ◌∙◌, arith}
+use Rattle.std.proofs.Common.{◌≡◌, ℕ, ◌+◌, ◌<◌, ◌≤◌, ◌%◌, ◌==◌, Bool, true, false, cond, ◌&&◌, ◌||◌, List, [], ◌∷◌, ◌++◌, length, get_or, take, sym, refl, ap, ◌∙◌, arith}
 use Rattle.std.proofs.lemmas.List.{map-append, length-map, length-take, take_more}
 use Rattle.std.specs.List.{filter}
 use Rattle.rules.specs.declared.Atom.{Atom}
 use Rattle.rules.specs.Logic.{Formula, Implication, formula_of}
-use Rattle.rules.specs.Bounds.{some}
+use Rattle.std.proofs.lemmas.Bool.{eqb-true}
+use Rattle.std.proofs.lemmas.Bool.Decides.{Decides-eqb, Decides-and}
+use Rattle.rules.specs.Bounds.{some, near?}
 use Rattle.rules.proofs.Mapped.{some_map}
+use Rattle.rules.proofs.Marking.{some_from, some_in, some_less}
 use Rattle.matches.specs.Lists.{formulas}
 use Rattle.reliances.proofs.Nodes.{no_atom}
 use Rattle.reliances.proofs.SearchSteps.{few_open}
@@ -46,6 +49,24 @@ pub shares_open : (heads : List Formula) (B : Implication) → some (λ b. some 
 shares_open heads B =
     let shared = λ (b : Formula). some (of? b.predicate) heads in
     sym (some_map (shift_formula B) shared (filter (opens? B) B.head) ∙ some_picked (opens? B) shared B.head)
+
+-- predicates that are the same have the same remainder
+meets : (hs : List Formula) (b : Formula) → some (of? b.predicate) hs ≡ true → some (λ a. a.predicate % 64 == b.predicate % 64) hs ≡ true
+meets hs b t =
+    let r = some_from (of? b.predicate) hs t in
+    some_in (λ a. a.predicate % 64 == b.predicate % 64) r.0 hs r.1
+    ((Decides-eqb (r.0.predicate % 64) (b.predicate % 64)).1 (ap (λ n. n % 64) (eqb-true r.0.predicate b.predicate r.2)))
+
+-- where no remainders are the same, no predicate is shared
+module _ (hs bs : List Formula) (apart : near? hs bs ≡ false) where
+  pub none_shared : shares? hs bs ≡ false
+  none_shared = some_less (λ b. some (of? b.predicate) hs) (λ b. some (λ a. a.predicate % 64 == b.predicate % 64) hs) (meets hs) bs apart
+
+pub none_open : (heads : List Formula) (B : Implication) → near? heads B.head ≡ false → shares? heads (shifted B) ≡ false
+none_open heads B apart =
+    sym (shares_open heads B)
+    ∙ some_less (λ b. some (of? b.predicate) heads && opens? B b) (λ b. some (λ a. a.predicate % 64 == b.predicate % 64) heads)
+    (λ b t. meets heads b ((Decides-and (some (of? b.predicate) heads) (opens? B b) (λ e. e, λ e. e) (λ e. e, λ e. e)).0 t).0) B.head apart
 
 -- one atom more was looked at
 module _ (p : Formula → Bool) (xs kept : List Atom) (i : ℕ) (below : i < length xs) (so_far : formulas kept ≡ filter p (formulas (take i xs))) where

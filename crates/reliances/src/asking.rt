@@ -44,7 +44,9 @@ fn answer(kind: Kind, first: &Rule, second: &Rule, sheet: &mut Sheet) -> bool
 fn ask_reliance(first: &Rule, second: &Rule, sheet: &mut Sheet) -> bool
     ensures { Answered result Positive first.now second.now sheet.old sheet.new }
 {
-    share_predicate(first.head(), second.body()) && search_reliance(first, second, sheet)
+    first.may_meet_body(second)
+        && share_predicate(first.head(), second.body())
+        && search_reliance(first, second, sheet)
 }
 
 // Apart, so that nothing is made ready for a search where the predicates rule the relation out.
@@ -61,7 +63,9 @@ fn search_reliance(first: &Rule, second: &Rule, sheet: &mut Sheet) -> bool
 fn ask_restraint(first: &Rule, second: &Rule, sheet: &mut Sheet) -> bool
     ensures { Answered result Restraint first.now second.now sheet.old sheet.new }
 {
-    share_open(first, second) && search_restraint(first, second, sheet)
+    first.may_meet_head(second)
+        && share_open(first, second)
+        && search_restraint(first, second, sheet)
 }
 
 #[inline(never)]

@@ -1,4 +1,5 @@
 pub mod Mapped
+pub mod Marking
 pub mod Mapping
 pub mod Membership
 pub mod Alike

@@ -1,6 +1,7 @@
 -- What parts make a rule: the counts that every rule keeps, as tests and in words.
-use Rattle.std.specs.Prelude.{◌≡◌, ℕ, ◌≤◌, Bool, true, false, not, ◌&&◌, List, take, ◌==◌, nat_le, slice_index_or}
+use Rattle.std.specs.Prelude.{◌≡◌, ℕ, ◌<◌, ◌≤◌, ◌%◌, Bool, true, false, cond, not, ◌&&◌, List, take, ◌==◌, nat_le, slice_index_or}
 use Rattle.std.specs.List.{list_all, list_any, count_by, sum_by, range_with_len}
+use Rattle.std.specs.Int.{bit_at}
 use Rattle.rules.specs.declared.Term.{Term}
 use Rattle.rules.specs.declared.Term.TheVariants.{Constant, Variable, Null}
 use Rattle.rules.specs.declared.Atom.{Atom}
@@ -42,6 +43,14 @@ FlagsAre xs test = (v : ℕ) → flags xs v ≡ test v
 -- the same elements, each as often, in any order: whatever is summed over them, the sum is the same
 abbrev pub Rearranged : {A : Type 0} → List A → List A → Type 0
 Rearranged {A} xs ys = (f : A → ℕ) → sum_by f ys ≡ sum_by f xs
+
+-- bit i of the marks is set where the remainder of some predicate by 64 is i
+abbrev pub MarksAre : List Formula → ℕ → Type 0
+MarksAre F m = (i : ℕ) → i < 64 → bit_at m i ≡ cond (some (λ a. a.predicate % 64 == i) F) 1 0
+
+-- the remainders by 64 of some predicate in F and of some in G are the same
+abbrev pub near? : List Formula → List Formula → Bool
+near? F G = some (λ b. some (λ a. a.predicate % 64 == b.predicate % 64) F) G
 
 -- how many of the variables 0 to 11 are existential
 abbrev pub existentials : Implication → ℕ

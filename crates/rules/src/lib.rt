@@ -3,6 +3,7 @@
 
 mod args;
 mod made;
+mod marks;
 mod order;
 mod parts;
 mod rule;

@@ -1,8 +1,9 @@
 ghost use Rattle.std.specs.Prelude.{◌≡◌, Decides};
 ghost use Rattle.rules.specs.Logic.{Universal, Existential};
-ghost use Rattle.rules.specs.Bounds.{body_of, head_of, MakesRule, Rearranged, FlagsAre, universal?, existential?};
+ghost use Rattle.rules.specs.Bounds.{body_of, head_of, MakesRule, Rearranged, FlagsAre, near?, universal?, existential?};
 ghost use Rattle.rules.specs.Rules.{MadeOf, meaning, order_of};
 
+use crate::marks::{have_common, marks_of};
 use crate::order::arranged;
 use crate::{Atom, Rule, RuleParts, first, is_flagged};
 
@@ -20,6 +21,8 @@ impl Rule {
             universal: parts.flag_universal(),
             existential,
             order: arranged(&parts, &existential),
+            body_marks: marks_of(parts.body()),
+            head_marks: marks_of(parts.head()),
         })
     }
 
@@ -53,6 +56,21 @@ impl Rule {
         ensures kept { Rearranged (head_of self.now.parts) result.now }
     {
         first(&self.order, self.parts.heads)
+    }
+
+    /// Whether the remainders by 64 of a predicate in this rule's head and of one in the other rule's body are the same. A no
+    /// is quick, and tells that they have no predicate in common.
+    pub fn may_meet_body(&self, other: &Rule) -> bool
+        ensures { result ≡ near? (meaning self.now).head (meaning other.now).body }
+    {
+        have_common(self.head_marks, other.body_marks)
+    }
+
+    /// The same of a predicate in the other rule's head.
+    pub fn may_meet_head(&self, other: &Rule) -> bool
+        ensures { result ≡ near? (meaning self.now).head (meaning other.now).head }
+    {
+        have_common(self.head_marks, other.head_marks)
     }
 
     /// Whether the variable stands in the body.
