@@ -49,8 +49,7 @@ fn ask_reliance(first: &Rule, second: &Rule, sheet: &mut Sheet) -> bool
         && search_reliance(first, second, sheet)
 }
 
-// Apart, so that nothing is made ready for a search where the predicates rule the relation out.
-#[inline(never)]
+// Where the predicates do not rule the relation out.
 fn search_reliance(first: &Rule, second: &Rule, sheet: &mut Sheet) -> bool
     ensures { Answered result Positive first.now second.now sheet.old sheet.new }
 {
@@ -68,7 +67,6 @@ fn ask_restraint(first: &Rule, second: &Rule, sheet: &mut Sheet) -> bool
         && search_restraint(first, second, sheet)
 }
 
-#[inline(never)]
 fn search_restraint(first: &Rule, second: &Rule, sheet: &mut Sheet) -> bool
     ensures { Answered result Restraint first.now second.now sheet.old sheet.new }
 {
