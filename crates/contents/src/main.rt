@@ -6,13 +6,9 @@ ghost use Rattle.std.specs.Fmt.{WritesOnOk};
 ghost use Rattle.volumes.specs.Text.{lines};
 ghost use Rattle.contents.specs.Text.{answer_text, volume_text};
 
-use std::alloc::Global;
-use std::io::Read;
+use inputs::read_volume;
 use std::{fmt, io};
 use volumes::{Entries, Facts, Rules, Volume};
-
-/// Longer input is cut here.
-const MOST_BYTES: u64 = 65536;
 
 /// A volume in bytes, printed as what it holds or as its first fault.
 #[derive(Clone, Copy)]
@@ -43,12 +39,6 @@ fn write_volume<E: Entries, W: fmt::Write>(bytes: &[u8], f: &mut fmt::Formatter<
         }
         Err(fault) => writeln!(f, "{fault}"),
     }
-}
-
-fn read_volume(input: impl Read + Drop, heap: Global) -> io::Result<Vec<u8>> {
-    let mut bytes = Vec::new(heap);
-    input.take(MOST_BYTES).read_to_end(&mut bytes)?;
-    Ok(bytes)
 }
 
 fn main(rt: HostRuntime) -> io::Result<()> {

@@ -6,11 +6,11 @@
 mod asked;
 
 use asked::Asked;
+use inputs::{read_rounds, read_volume};
 use reliances::Kind;
 use std::io;
 use std::num::NonZeroU32;
 use std::time::Clock;
-use timed::{read_rounds, read_volume};
 use volumes::{NumberedRule, RuleVolume, check_rules};
 
 /// Prints a line for the question, with the time where rounds are given.

@@ -7,13 +7,13 @@ mod counts;
 mod rows;
 
 use counts::Counted;
+use inputs::{read_rounds, read_volume};
 use rows::{make_rows, make_volume};
 use rules::Rule;
 use sources::{Addition, FactSource, RowTable};
 use std::io;
 use std::num::NonZeroU32;
 use std::time::{Clock, Instant};
-use timed::{read_rounds, read_volume};
 use volumes::{FactVolume, NumberedRule, RuleVolume, check_rules};
 
 /// The count, and how many nanoseconds it took, by so many in a row.

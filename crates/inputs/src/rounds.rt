@@ -1,6 +1,6 @@
 //! How often what is timed is done.
 ghost use Rattle.std.specs.Prelude.{IfOk, IfSome};
-ghost use Rattle.timed.specs.Rounds.{Few};
+ghost use Rattle.inputs.specs.Rounds.{Few};
 
 use std::env::Env;
 use std::num::NonZeroU32;
