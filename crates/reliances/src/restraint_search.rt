@@ -182,7 +182,8 @@ fn is_open(asked: &Question<Restrains>, way: &Way, list: &[Atom]) -> bool
     some_spared(&asked.rigid, &other)
 }
 
-// Where an alternative comes too early: the facts of the node, of which the second rule's body is the first.
+// An alternative that comes too early at a node, or none where there is none. `facts` are the node's, and first among them
+// those of the second rule's body.
 fn find_here(asked: &Question<Restrains>, sigma: &[Term; 36], facts: &[Atom]) -> Option<Early>
     requires { length (body_of asked.now.second.now.parts) ≤ length facts.now }
     ensures { let B = asked.now.second.now in EarlyFound (meaning B) (flags asked.now.rigid) (formulas (take (length (body_of B.parts)) facts.now)) (look (part sigma.now 12)) (formulas facts.now) result }
