@@ -1,6 +1,6 @@
 -- What an answer says, and what is printed of it.
 use Rattle.std.specs.Prelude.{ℕ, List, ◌++◌, codes, decimal}
-use Rattle.rules.specs.declared.rule.Rule.{Rule}
+use Rattle.rules.specs.Logic.{Implication}
 use Rattle.reliances.specs.declared.sheet.Kind.{Kind}
 use Rattle.reliances.specs.declared.sheet.Kind.TheVariants.{Positive, Restraint}
 use Rattle.reliances.specs.Sheets.{Holds}
@@ -9,7 +9,7 @@ use Rattle.reliance_times.specs.declared.asked.Answer.TheVariants.{No, Yes, Unsh
 
 -- the answer is right: the relation holds where it is a yes, and does not where it is a no. A yes that its sheet does not
 -- show is never right
-abbrev pub Right : Answer → Kind → Rule → Rule → Type 0
+abbrev pub Right : Answer → Kind → Implication → Implication → Type 0
 Right No kind A B = Holds kind A B → ⊥
 Right Yes kind A B = Holds kind A B
 Right Unshown kind A B = ⊥

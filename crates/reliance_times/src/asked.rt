@@ -1,5 +1,6 @@
 //! A question on two rules, its answer, and how both are printed.
 ghost use Rattle.std.specs.Prelude.{◌≡◌, ◌≤◌, true, Some, IfOk, Decides};
+ghost use Rattle.rules.specs.Rules.{meaning};
 ghost use Rattle.reliances.specs.Sheets.{Shows, Holds};
 ghost use Rattle.reliance_times.specs.Answers.{Right, answer_text, asked_text};
 
@@ -29,7 +30,7 @@ pub enum Answer {
 impl<'a> Asked<'a> {
     /// The answer, and how many nanoseconds a call took, by so many in a row.
     pub fn answer(&self, clock: &impl Clock, rounds: NonZeroU32) -> io::Result<(Answer, u128)>
-        ensures { let q = self.now in IfOk result (λ r. Right r.0 q.kind q.first.now.rule q.second.now.rule) }
+        ensures { let q = self.now in IfOk result (λ r. Right r.0 q.kind (meaning q.first.now.rule) (meaning q.second.now.rule)) }
     {
         let mut sheet = Sheet::BLANK;
         let start = Instant::now(clock)?;
@@ -44,8 +45,8 @@ impl<'a> Asked<'a> {
     /// Asks so many times in a row. The sheet is lent each time, so that no call can be left out.
     fn repeat(&self, rounds: u32, sheet: &mut Sheet) -> bool
         requires { 1 ≤ rounds }
-        ensures holds { let q = self.now in Decides result (Holds q.kind q.first.now.rule q.second.now.rule) }
-        ensures shown { let q = self.now in result ≡ true → Shows q.kind q.first.now.rule q.second.now.rule sheet.new }
+        ensures holds { let q = self.now in Decides result (Holds q.kind (meaning q.first.now.rule) (meaning q.second.now.rule)) }
+        ensures shown { let q = self.now in result ≡ true → Shows q.kind (meaning q.first.now.rule) (meaning q.second.now.rule) sheet.new }
     {
         let mut yes = ask(self.kind, &self.first.rule, &self.second.rule, sheet);
         for _ in 1..rounds {
@@ -56,9 +57,9 @@ impl<'a> Asked<'a> {
 
     /// The answer, after the sheet of a yes was tested.
     fn judge(&self, yes: bool, sheet: &Sheet) -> Answer
-        requires holds { let q = self.now in Decides yes (Holds q.kind q.first.now.rule q.second.now.rule) }
-        requires shown { let q = self.now in yes ≡ true → Shows q.kind q.first.now.rule q.second.now.rule sheet.now }
-        ensures { let q = self.now in Right result q.kind q.first.now.rule q.second.now.rule }
+        requires holds { let q = self.now in Decides yes (Holds q.kind (meaning q.first.now.rule) (meaning q.second.now.rule)) }
+        requires shown { let q = self.now in yes ≡ true → Shows q.kind (meaning q.first.now.rule) (meaning q.second.now.rule) sheet.now }
+        ensures { let q = self.now in Right result q.kind (meaning q.first.now.rule) (meaning q.second.now.rule) }
     {
         if !yes {
             return Answer::No;

@@ -7,7 +7,7 @@ use Rattle.std.proofs.lemmas.Option.{none-some}
 use Rattle.rules.specs.declared.Term.TheVariants.{Null}
 use Rattle.rules.specs.declared.Atom.{Atom}
 use Rattle.rules.specs.declared.rule.Rule.{Rule}
-use Rattle.rules.specs.Logic.{In, Each, Formula, formula_of}
+use Rattle.rules.specs.Logic.{In, Each, Formula, Implication, formula_of}
 use Rattle.rules.specs.Bounds.{body_of, head_of, flags, FlagsAre}
 use Rattle.rules.specs.Rules.{meaning}
 use Rattle.rules.proofs.Membership.{decides_false}
@@ -45,7 +45,7 @@ start_keeps : (kind : Kind) (A B : Rule) (rigid : List Bool) → Flagged kind A 
 start_keeps Positive A B rigid is = positive.start_keeps (meaning A) (meaning B) (bounded A) (bounded B) (flags rigid) is
 start_keeps Restraint A B rigid is = restraint.start_keeps (meaning A) (meaning B) (bounded A) (bounded B) (flags rigid) is
 
-follow_start : (kind : Kind) (A B : Rule) (rigid : List Bool) → Flagged kind A B rigid → Holds kind A B → Follows kind (meaning A) (meaning B) (flags rigid) start []
+follow_start : (kind : Kind) (A B : Rule) (rigid : List Bool) → Flagged kind A B rigid → Holds kind (meaning A) (meaning B) → Follows kind (meaning A) (meaning B) (flags rigid) start []
 follow_start Positive A B rigid is = positive.follow_start (meaning A) (meaning B) (bounded A) (bounded B) (flags rigid) is
 follow_start Restraint A B rigid is = restraint.follow_start (meaning A) (meaning B) (bounded A) (bounded B) (flags rigid) is
 
@@ -57,11 +57,11 @@ follow_split Positive A B rigid is = positive.follow_split (meaning A) (meaning 
 follow_split Restraint A B rigid is = restraint.follow_split (meaning A) (meaning B) (bounded A) (bounded B) (flags rigid) is
 
 -- a sheet that meets the definition implies the relation
-pub shows_holds : (kind : Kind) (A B : Rule) (s : Sheet) → Shows kind A B s → Holds kind A B
+pub shows_holds : (kind : Kind) (A B : Implication) (s : Sheet) → Shows kind A B s → Holds kind A B
 shows_holds Positive A B s w = record { before = formulas (first_list s); first = look s.first_rule; second = look s.second_rule; shows = w.shows }
 shows_holds Restraint A B s w = record {
   before = formulas (first_list s);
-  later = later_facts (meaning B) s;
+  later = later_facts B s;
   first = look s.first_rule;
   second = look s.second_rule;
   other = look s.alternative;
@@ -207,19 +207,19 @@ module _ (kind : Kind) (A B : Rule) (rigid : List Bool) (is : Flagged kind A B r
       subst (λ z. Node (meaning A).head (gone kind (meaning B)) rigid z [] atoms) (sym e)
       (node_start (meaning A).head (gone kind (meaning B)) (slots_heads kind A B rigid is) (slots_gone kind A B rigid is) rigid (start_keeps kind A B rigid is) atoms p small)
 
-  pub answered : (r : Bool) (σ : Subst) (s t : Sheet) → σ ≡ start → Searched r kind A B rigid σ [] s t → Answered r kind A B s t
+  pub answered : (r : Bool) (σ : Subst) (s t : Sheet) → σ ≡ start → Searched r kind A B rigid σ [] s t → Answered r kind (meaning A) (meaning B) s t
   answered true σ s t e shows = shows
   answered false σ s t e left = (λ w. left.0 (subst (λ z. Follows kind (meaning A) (meaning B) (flags rigid) z []) (sym e) (follow_start kind A B rigid is w)), left.1)
 
 -- what an answer says
-pub answer_decides : (r : Bool) (kind : Kind) (A B : Rule) (s t : Sheet) → Answered r kind A B s t → Decides r (Holds kind A B)
+pub answer_decides : (r : Bool) (kind : Kind) (A B : Implication) (s t : Sheet) → Answered r kind A B s t → Decides r (Holds kind A B)
 answer_decides true kind A B s t shows = (λ e. shows_holds kind A B t shows, λ h. refl)
 answer_decides false kind A B s t left = decides_false left.0
 
-pub answer_shows : (r : Bool) (kind : Kind) (A B : Rule) (s t : Sheet) → Answered r kind A B s t → r ≡ true → Shows kind A B t
+pub answer_shows : (r : Bool) (kind : Kind) (A B : Implication) (s t : Sheet) → Answered r kind A B s t → r ≡ true → Shows kind A B t
 answer_shows true kind A B s t shows e = shows
 answer_shows false kind A B s t left e = absurd (false≢true e)
 
-pub answer_keeps : (r : Bool) (kind : Kind) (A B : Rule) (s t : Sheet) → Answered r kind A B s t → r ≡ false → t ≡ s
+pub answer_keeps : (r : Bool) (kind : Kind) (A B : Implication) (s t : Sheet) → Answered r kind A B s t → r ≡ false → t ≡ s
 answer_keeps true kind A B s t shows e = absurd (false≢true (sym e))
 answer_keeps false kind A B s t left e = left.1

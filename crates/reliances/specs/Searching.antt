@@ -39,7 +39,7 @@ Deserted kind A B rigid σ old = Follows kind (meaning A) (meaning B) (flags rig
 -- what is seen at a node: the sheet shows the relation; or no facts and matches follow; or one of the atoms that remain is next.
 -- The sheet is as it was but where it shows the relation
 abbrev pub Seen : Sight → Kind → Rule → Rule → List Bool → Subst → List Atom → List Atom → Sheet → Sheet → Type 0
-Seen Found kind A B rigid σ old rest before after = Shows kind A B after
+Seen Found kind A B rigid σ old rest before after = Shows kind (meaning A) (meaning B) after
 Seen Shut kind A B rigid σ old rest before after = Deserted kind A B rigid σ old × (after ≡ before)
 Seen (Next i) kind A B rigid σ old rest before after = (i < length rest) × (after ≡ before)
 
@@ -50,5 +50,5 @@ OnWay kind A B rigid σ old rest = Node (meaning A).head (gone kind (meaning B))
 -- an answer of the search from a node on. A yes: the sheet shows the relation. A no: no facts and matches follow, and the sheet
 -- is as it was
 abbrev pub Searched : Bool → Kind → Rule → Rule → List Bool → Subst → List Atom → Sheet → Sheet → Type 0
-Searched true kind A B rigid σ old before after = Shows kind A B after
+Searched true kind A B rigid σ old before after = Shows kind (meaning A) (meaning B) after
 Searched false kind A B rigid σ old before after = Deserted kind A B rigid σ old × (after ≡ before)

@@ -1,11 +1,9 @@
 -- What a sheet shows, and what an answer with a sheet says.
 use Rattle.std.specs.Prelude.{◌≡◌, ℕ, ◌≤◌, ◌⊎◌, Bool, true, false, List, ◌++◌, take}
 use Rattle.rules.specs.declared.Atom.{Atom}
-use Rattle.rules.specs.declared.rule.Rule.{Rule}
 use Rattle.rules.specs.Logic.{Each, Formula, Implication, Universal, Existential}
 use Rattle.rules.specs.Matches.{Ground, Assignment, result}
 use Rattle.rules.specs.Reliances.{ShowsReliance, PositiveReliance, ShowsRestraint, Restraint as Restrained}
-use Rattle.rules.specs.Rules.{meaning}
 use Rattle.matches.specs.Lists.{look, formulas, FactAtom}
 use Rattle.reliances.specs.declared.sheet.Kind.{Kind}
 use Rattle.reliances.specs.declared.sheet.Kind.TheVariants.{Positive, Restraint}
@@ -59,16 +57,16 @@ pub record ShowsRestrained (A B : Implication) (s : Sheet) : Type 0 where
   pub shows : ShowsRestraint A B (formulas (first_list s)) (later_facts B s) (look s.first_rule) (look s.second_rule) (look s.alternative)
 
 -- the sheet meets the definition for its kind and the two rules
-abbrev pub Shows : Kind → Rule → Rule → Sheet → Type 0
-Shows Positive A B s = ShowsPositive (meaning A) (meaning B) s
-Shows Restraint A B s = ShowsRestrained (meaning A) (meaning B) s
+abbrev pub Shows : Kind → Implication → Implication → Sheet → Type 0
+Shows Positive A B s = ShowsPositive A B s
+Shows Restraint A B s = ShowsRestrained A B s
 
 -- the relation holds: some facts and matches at all meet its definition
-abbrev pub Holds : Kind → Rule → Rule → Type 0
-Holds Positive A B = PositiveReliance (meaning A) (meaning B)
-Holds Restraint A B = Restrained (meaning A) (meaning B)
+abbrev pub Holds : Kind → Implication → Implication → Type 0
+Holds Positive A B = PositiveReliance A B
+Holds Restraint A B = Restrained A B
 
 -- an answer. A yes: the sheet shows the relation. A no: it does not hold, and the sheet is as it was
-abbrev pub Answered : Bool → Kind → Rule → Rule → Sheet → Sheet → Type 0
+abbrev pub Answered : Bool → Kind → Implication → Implication → Sheet → Sheet → Type 0
 Answered true kind A B before after = Shows kind A B after
 Answered false kind A B before after = (Holds kind A B → ⊥) × (after ≡ before)

@@ -24,15 +24,15 @@ use rules::{Atom, Rule, Term};
 /// Whether the relation holds between the two rules, which may be one and the same. If so, the sheet shows it. If not, no
 /// facts and matches at all meet its definition, and the sheet is as it was.
 pub fn ask(kind: Kind, first: &Rule, second: &Rule, sheet: &mut Sheet) -> bool
-    ensures holds { Decides result (Holds kind first.now second.now) }
-    ensures shown { result ≡ true → Shows kind first.now second.now sheet.new }
+    ensures holds { Decides result (Holds kind (meaning first.now) (meaning second.now)) }
+    ensures shown { result ≡ true → Shows kind (meaning first.now) (meaning second.now) sheet.new }
     ensures kept { result ≡ false → sheet.new ≡ sheet.old }
 {
     answer(kind, first, second, sheet)
 }
 
 fn answer(kind: Kind, first: &Rule, second: &Rule, sheet: &mut Sheet) -> bool
-    ensures { Answered result kind first.now second.now sheet.old sheet.new }
+    ensures { Answered result kind (meaning first.now) (meaning second.now) sheet.old sheet.new }
 {
     match kind {
         Kind::Positive => ask_reliance(first, second, sheet),
@@ -42,7 +42,7 @@ fn answer(kind: Kind, first: &Rule, second: &Rule, sheet: &mut Sheet) -> bool
 
 // The second rule's body is gone through.
 fn ask_reliance(first: &Rule, second: &Rule, sheet: &mut Sheet) -> bool
-    ensures { Answered result Positive first.now second.now sheet.old sheet.new }
+    ensures { Answered result Positive (meaning first.now) (meaning second.now) sheet.old sheet.new }
 {
     first.may_meet_body(second)
         && share_predicate(first.head(), second.body())
@@ -51,7 +51,7 @@ fn ask_reliance(first: &Rule, second: &Rule, sheet: &mut Sheet) -> bool
 
 // Where the predicates do not rule the relation out.
 fn search_reliance(first: &Rule, second: &Rule, sheet: &mut Sheet) -> bool
-    ensures { Answered result Positive first.now second.now sheet.old sheet.new }
+    ensures { Answered result Positive (meaning first.now) (meaning second.now) sheet.old sheet.new }
 {
     let body = second.body();
     let asked = Question::<Relies>::new(first, second, body.len());
@@ -60,7 +60,7 @@ fn search_reliance(first: &Rule, second: &Rule, sheet: &mut Sheet) -> bool
 
 // The atoms of the second rule's head that have existential variables are gone through, as an alternative reads them.
 fn ask_restraint(first: &Rule, second: &Rule, sheet: &mut Sheet) -> bool
-    ensures { Answered result Restraint first.now second.now sheet.old sheet.new }
+    ensures { Answered result Restraint (meaning first.now) (meaning second.now) sheet.old sheet.new }
 {
     first.may_meet_head(second)
         && share_open(first, second)
@@ -68,7 +68,7 @@ fn ask_restraint(first: &Rule, second: &Rule, sheet: &mut Sheet) -> bool
 }
 
 fn search_restraint(first: &Rule, second: &Rule, sheet: &mut Sheet) -> bool
-    ensures { Answered result Restraint first.now second.now sheet.old sheet.new }
+    ensures { Answered result Restraint (meaning first.now) (meaning second.now) sheet.old sheet.new }
 {
     let open = open_atoms(second);
     let asked = Question::<Restrains>::new(first, second, open.len());
@@ -119,7 +119,7 @@ fn is_existential(t: Term, rule: &Rule) -> bool
 fn begin<R: Relation>(asked: &Question<R>, atoms: &[Atom], sheet: &mut Sheet) -> bool
     requires all { formulas atoms.now ≡ gone R.KIND (meaning asked.now.second.now) }
     requires small { Each Small atoms.now }
-    ensures { Answered result R.KIND asked.now.first.now asked.now.second.now sheet.old sheet.new }
+    ensures { Answered result R.KIND (meaning asked.now.first.now) (meaning asked.now.second.now) sheet.old sheet.new }
 {
     let way = Way {
         sigma: &start_slots(),

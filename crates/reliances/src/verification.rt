@@ -17,8 +17,8 @@ use rules::{Atom, Rule, Term};
 ///
 /// A list too long, an atom that is no fact, and an entry that is read but holds a variable are a no.
 pub fn verify(kind: Kind, first: &Rule, second: &Rule, sheet: &Sheet) -> bool
-    ensures shown { Decides result (Shows kind first.now second.now sheet.now) }
-    ensures holds { result ≡ true → Holds kind first.now second.now }
+    ensures shown { Decides result (Shows kind (meaning first.now) (meaning second.now) sheet.now) }
+    ensures holds { result ≡ true → Holds kind (meaning first.now) (meaning second.now) }
 {
     // A match, and no trait as in the search: it stands once, and the kind is the caller's value.
     match kind {

@@ -19,4 +19,4 @@ returns-else-share_predicate c =
           (λ i. shares? (formulas (sym w.head.ensures.same i)) (formulas (sym w.body.ensures.same i))) ∙ sym w.share_predicate.ensures ∙ sym w.value-is ∙ c.if-share_predicate.false
       | else-may_meet_body w ↦ none_shared (meaning A).head (meaning B).body (sym c.may_meet_body.ensures ∙ w.if-may_meet_body.false)
     ] in
-    subst (λ r. Answered r Positive A B c.args.sheet.now c.args.sheet.now) (sym c.if-share_predicate.false) (no_shared (meaning A) (meaning B) none, refl)
+    subst (λ r. Answered r Positive (meaning A) (meaning B) c.args.sheet.now c.args.sheet.now) (sym c.if-share_predicate.false) (no_shared (meaning A) (meaning B) none, refl)

@@ -18,4 +18,4 @@ returns-else-share_open c =
       | then-may_meet_head w ↦ sym w.share_open.ensures ∙ sym w.value-is ∙ c.if-share_open.false
       | else-may_meet_head w ↦ none_open (meaning A).head (meaning B) (sym c.may_meet_head.ensures ∙ w.if-may_meet_head.false)
     ] in
-    subst (λ r. Answered r Restraint A B c.args.sheet.now c.args.sheet.now) (sym c.if-share_open.false) (no_shared (meaning A) (meaning B) none, refl)
+    subst (λ r. Answered r Restraint (meaning A) (meaning B) c.args.sheet.now c.args.sheet.now) (sym c.if-share_open.false) (no_shared (meaning A) (meaning B) none, refl)
