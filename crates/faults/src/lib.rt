@@ -1,5 +1,5 @@
-//! What can be wrong with a volume, layer by layer: each layer's fault carries that of the layer below. And what a source
-//! of facts declines.
+//! What can be wrong with a volume, layer by layer: each layer's fault carries that of the layer below. And what a shelf and a
+//! source of facts decline.
 #![tactic(auto)]
 
 ghost use Rattle.std.specs.Prelude.{◌≡◌};
@@ -8,9 +8,11 @@ ghost use Rattle.faults.specs.declared.AtomFault.TheVariants.{CutShort};
 ghost use Rattle.faults.specs.declared.EntryFault.TheVariants.{EntryEnded};
 ghost use Rattle.faults.specs.Faults.{atom_fault, entry_fault, in_volume, entry_place, atom_place, term_place, rank_of, number_of};
 
+mod shelf;
 mod show;
 mod source;
 
+pub use shelf::ShelfFault;
 pub use source::SourceFault;
 
 /// The bytes ended inside a field. The place is where they end.

@@ -1,0 +1,4 @@
+pub mod Slots
+pub mod Held
+pub mod Calls
+pub mod Runs
