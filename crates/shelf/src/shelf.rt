@@ -1,5 +1,5 @@
 //! The shelf and its slots.
-ghost use Rattle.std.specs.Prelude.{◌≡◌, ℕ, ◌<◌, true, false, Some, None, IsSome, MatchOption};
+ghost use Rattle.std.specs.Prelude.{◌≡◌, ℕ, ◌<◌, true, false, Some, None, length, IsSome, MatchOption};
 ghost use Rattle.shelf.specs.Slots.{slot, slot_has?};
 
 use rules::Rule;
@@ -16,14 +16,22 @@ pub struct Shelf {
 
 /// The slot that has the rule of this number.
 pub(crate) fn find_number(slots: &[Option<NumberedRule>; 64], number: u16) -> Option<usize>
-    ensures { MatchOption result ((i : ℕ) → slot_has? number (slot slots.now i) ≡ false) (λ i. slot_has? number (slot slots.now i) ≡ true) }
+    ensures long { length slots.now ≡ 64 }
+    ensures found { MatchOption result ((i : ℕ) → slot_has? number (slot slots.now i) ≡ false)
+        (λ i. (i < 64) × (slot_has? number (slot slots.now i) ≡ true)) }
 {
-    slots.iter().position(|held| has_number(held, number))
+    for (index, slot) in slots.iter().enumerate() {
+        if has_number(slot, number) {
+            return Some(index);
+        }
+    }
+    None
 }
 
 /// A slot that is free.
 pub(crate) fn find_free(slots: &[Option<NumberedRule>; 64]) -> Option<usize>
-    ensures { MatchOption result ((i : ℕ) → i < 64 → IsSome (slot slots.now i)) (λ i. (i < 64) × (slot slots.now i ≡ None)) }
+    ensures long { length slots.now ≡ 64 }
+    ensures found { MatchOption result ((i : ℕ) → i < 64 → IsSome (slot slots.now i)) (λ i. (i < 64) × (slot slots.now i ≡ None)) }
 {
     slots.iter().position(Option::is_none)
 }
