@@ -1,7 +1,7 @@
 //! Any list of calls on a new shelf.
-ghost use Rattle.shelf.specs.Runs.{Ran, Right, after};
-ghost use Rattle.shelf.specs.Held.{rules_on};
 ghost use Rattle.std.specs.Prelude.{◌≡◌};
+ghost use Rattle.shelf.specs.Held.{rules_on, both_under};
+ghost use Rattle.shelf.specs.Runs.{after, Right, DoneRight, PairRight, AskRight, VerifyRight, GradeRight, Ran};
 
 use crate::calls::{Answer, Call};
 use crate::shelf::Shelf;
@@ -43,14 +43,18 @@ fn make(shelf: &mut Shelf, call: Call<'_>) -> Answer
     }
 }
 
-fn tell(done: Result<(), ShelfFault>) -> Answer {
+fn tell(done: Result<(), ShelfFault>) -> Answer
+    ensures { DoneRight done result }
+{
     match done {
         Ok(()) => Answer::Done,
         Err(fault) => Answer::Refused(fault),
     }
 }
 
-fn ask(shelf: &Shelf, kind: Kind, first: u16, second: u16) -> Answer {
+fn ask(shelf: &Shelf, kind: Kind, first: u16, second: u16) -> Answer
+    ensures { PairRight (AskRight kind) (both_under (rules_on shelf.now) first second) result }
+{
     let mut sheet = Sheet::BLANK;
     match shelf.ask(kind, first, second, &mut sheet) {
         Ok(true) => Answer::Yes(sheet),
@@ -59,14 +63,18 @@ fn ask(shelf: &Shelf, kind: Kind, first: u16, second: u16) -> Answer {
     }
 }
 
-fn verify(shelf: &Shelf, kind: Kind, first: u16, second: u16, sheet: &Sheet) -> Answer {
+fn verify(shelf: &Shelf, kind: Kind, first: u16, second: u16, sheet: &Sheet) -> Answer
+    ensures { PairRight (VerifyRight kind sheet.now) (both_under (rules_on shelf.now) first second) result }
+{
     match shelf.verify(kind, first, second, sheet) {
         Ok(yes) => Answer::Verified(yes),
         Err(fault) => Answer::Refused(fault),
     }
 }
 
-fn grade(shelf: &Shelf) -> Answer {
+fn grade(shelf: &Shelf) -> Answer
+    ensures { GradeRight (rules_on shelf.now) result }
+{
     let mut grades = [0; 64];
     match shelf.grade(&mut grades) {
         Ok(counts) => Answer::Graded { counts, grades },
