@@ -1,2 +1,4 @@
 pub mod Faults
+pub mod Lines
 pub mod Sources
+pub mod Text
