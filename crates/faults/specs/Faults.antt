@@ -1,5 +1,5 @@
 -- Each fault's number, the rank of its layer, and its place.
-use Rattle.std.specs.Prelude.{ℕ, List, ◌++◌, codes, decimal}
+use Rattle.std.specs.Prelude.{ℕ, List}
 use Rattle.faults.specs.declared.Cut.{Cut}
 use Rattle.faults.specs.declared.TermFault.{TermFault}
 use Rattle.faults.specs.declared.TermFault.TheVariants.{Ended, Kind, Number}
@@ -10,6 +10,7 @@ use Rattle.faults.specs.declared.EntryFault.TheVariants.{EntryEnded, Count, Left
 use Rattle.faults.specs.declared.VolumeFault.{VolumeFault}
 use Rattle.faults.specs.declared.VolumeFault.TheVariants.{Short, FirstByte, TooMany, Ends, NotRising, Misplaced, InEntry}
 use Rattle.faults.specs.declared.Fault.{Fault}
+use Rattle.faults.specs.Text.{refusal_text}
 
 -- the refusal's number
 abbrev pub term_number : TermFault → ℕ
@@ -105,7 +106,6 @@ fault layer index place = record { layer = layer; index = index; place = place }
 abbrev pub in_volume : ℕ → EntryFault → Fault
 in_volume i f = fault (InEntry f) i (entry_place f)
 
--- what a fault is printed as: the number, the rank, the index and the place, as X 8 4 0 12
+-- what a fault is printed as
 abbrev pub fault_text : Fault → List ℕ
-fault_text f =
-    codes "X " ++ (decimal (number_of f.layer) ++ (codes " " ++ (decimal (rank_of f.layer) ++ (codes " " ++ (decimal f.index ++ (codes " " ++ decimal f.place))))))
+fault_text f = refusal_text (number_of f.layer) (rank_of f.layer) f.index f.place

@@ -1,3 +1,5 @@
 pub mod Faults
+pub mod Lines
 pub mod Shelves
 pub mod Sources
+pub mod Text

@@ -1,7 +1,8 @@
 -- The number, the rank, the index and the place of each refusal of a shelf.
-use Rattle.std.specs.Prelude.{ℕ}
+use Rattle.std.specs.Prelude.{ℕ, List}
 use Rattle.faults.specs.declared.shelf.ShelfFault.{ShelfFault}
 use Rattle.faults.specs.declared.shelf.ShelfFault.TheVariants.{Full, AlreadyHeld, NotHeld, NoRule, NoNumbering}
+use Rattle.faults.specs.Text.{refusal_text}
 
 -- the refusal's number
 abbrev pub shelf_number : ShelfFault → ℕ
@@ -26,3 +27,7 @@ shelf_place (AlreadyHeld n) = n
 shelf_place (NotHeld n) = n
 shelf_place (NoRule i) = i
 shelf_place NoNumbering = 0
+
+-- what it is printed as
+abbrev pub shelf_text : ShelfFault → List ℕ
+shelf_text f = refusal_text (shelf_number f) (shelf_rank f) (shelf_index f) (shelf_place f)

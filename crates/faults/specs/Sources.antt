@@ -1,7 +1,8 @@
 -- The number, the rank, the index and the place of each refusal of a source of facts.
-use Rattle.std.specs.Prelude.{ℕ}
+use Rattle.std.specs.Prelude.{ℕ, List}
 use Rattle.faults.specs.declared.source.SourceFault.{SourceFault}
 use Rattle.faults.specs.declared.source.SourceFault.TheVariants.{TooManyRows, WrongRow, NoFact}
+use Rattle.faults.specs.Text.{refusal_text}
 
 -- the refusal's number
 abbrev pub source_number : SourceFault → ℕ
@@ -22,3 +23,7 @@ abbrev pub source_place : SourceFault → ℕ
 source_place (TooManyRows n) = n
 source_place (WrongRow i) = i
 source_place (NoFact i) = i
+
+-- what such a refusal is printed as
+abbrev pub source_text : SourceFault → List ℕ
+source_text f = refusal_text (source_number f) (source_rank f) (source_index f) (source_place f)

@@ -1,5 +1,5 @@
-//! What can be wrong with a volume, layer by layer: each layer's fault carries that of the layer below. And what a shelf and a
-//! source of facts decline.
+//! What can be wrong with a volume, layer by layer: each layer's fault carries that of the layer below. And what a shelf of
+//! rules, a source of facts and a buffer for a line are declined for.
 #![tactic(auto)]
 
 ghost use Rattle.std.specs.Prelude.{◌≡◌};
@@ -8,10 +8,12 @@ ghost use Rattle.faults.specs.declared.AtomFault.TheVariants.{CutShort};
 ghost use Rattle.faults.specs.declared.EntryFault.TheVariants.{EntryEnded};
 ghost use Rattle.faults.specs.Faults.{atom_fault, entry_fault, in_volume, entry_place, atom_place, term_place, rank_of, number_of};
 
+mod line;
 mod shelf;
 mod show;
 mod source;
 
+pub use line::LineFault;
 pub use shelf::ShelfFault;
 pub use source::SourceFault;
 
@@ -75,14 +77,14 @@ pub enum VolumeFault {
 #[derive(Clone, Copy, PartialEq, Eq, Debug)]
 pub struct Fault {
     pub layer: VolumeFault,
-    pub index: usize,
+    pub index: u16,
     pub place: usize,
 }
 
 /// An entry's fault with the entry's index in the contents.
 #[derive(Clone, Copy, PartialEq, Eq, Debug)]
 pub struct EntryAt {
-    pub index: usize,
+    pub index: u16,
     pub fault: EntryFault,
 }
 

@@ -33,16 +33,16 @@ fn fact_place(bytes: &[u8], index: usize) -> usize
 
 impl<'a> Cursor<'a> {
     /// The fact of this index in the contents, where the one before it ends here.
-    fn fact(&mut self, index: usize) -> Result<Atom, Fault>
+    fn fact(&mut self, index: u16) -> Result<Atom, Fault>
         requires { (self.old.end ≡ length self.old.bytes.now) × (3 + 2 * index + 2 ≤ length self.old.bytes.now) }
         ensures value { MatchResult result (λ a. read_fact_entry self.old.bytes.now index self.old.place ≡ Ok (formula_of a)) (λ f. read_fact_entry self.old.bytes.now index self.old.place ≡ Err f) }
         ensures moved { IfOk result (λ a. Past self.old (span (formula_of a)) self.new) }
     {
-        if fact_place(self.bytes, index) != self.place {
+        if fact_place(self.bytes, index as usize) != self.place {
             return Err(Fault {
                 layer: VolumeFault::Misplaced,
                 index,
-                place: 3 + 2 * index,
+                place: 3 + 2 * index as usize,
             });
         }
         let atom = self.atom(VolumeKind::Facts).map_err(|fault| EntryAt {
@@ -66,7 +66,7 @@ fn facts_end(bytes: &[u8], count: usize) -> Result<usize, Fault>
     };
     // By index: chunks of the contents would give an entry's bytes, but its place and its fault need the index.
     for index in 0..count {
-        cursor.fact(index)?;
+        cursor.fact(index as u16)?;
     }
     Ok(cursor.place)
 }

@@ -67,7 +67,7 @@ impl<'a> RuleContents<'a> {
             if number(self.bytes, index - 1) >= number(self.bytes, index) {
                 return Err(Fault {
                     layer: VolumeFault::NotRising,
-                    index,
+                    index: index as u16,
                     place: 3 + 4 * index,
                 });
             }
@@ -100,7 +100,11 @@ impl<'a> RuleContents<'a> {
             let end = place + extent(bytes, index);
             let rule = Cursor { bytes, place, end };
             if let Err(fault) = rule.rule() {
-                return Err(EntryAt { index, fault }.into());
+                return Err(EntryAt {
+                    index: index as u16,
+                    fault,
+                }
+                .into());
             }
             place = end;
         }

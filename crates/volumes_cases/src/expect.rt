@@ -6,7 +6,7 @@ use std::test::Fail;
 use volumes::{Entries, Volume};
 
 /// A fault's number, the rank of its layer, its index and its place.
-pub type Expected = (u8, u8, usize, usize);
+pub type Expected = (u8, u8, u16, usize);
 
 /// The bytes have this fault, and are taken up as a volume of nothing.
 pub fn expect_fault<E: Entries>(
