@@ -14,27 +14,27 @@ use Rattle.shelf.specs.Held.{both_under}
 
 -- a yes says that the relation holds, and the sheet shows it; a no says that it does not, whatever the facts, and the sheet is
 -- as it was
-pub record Asked (kind : Kind) (A B : Implication) (yes : Bool) (before after : Sheet) : Type 0 where
-  pub holds : Decides yes (Holds kind A B)
-  pub shown : yes ≡ true → Shows kind A B after
-  pub kept : yes ≡ false → after ≡ before
+pub record Asked (kind : Kind) (A B : Implication) (told : Bool) (before after : Sheet) : Type 0 where
+  pub holds : Decides told (Holds kind A B)
+  pub shown : told ≡ true → Shows kind A B after
+  pub kept : told ≡ false → after ≡ before
 
 -- what is answered about the two rules, or the refusal for want of one, with the sheet as it was
 abbrev pub AskSays : Kind → Result (Implication × Implication) ShelfFault → Result Bool ShelfFault → Sheet → Sheet → Type 0
-AskSays kind (Ok rules) (Ok yes) before after = Asked kind rules.0 rules.1 yes before after
+AskSays kind (Ok rules) (Ok told) before after = Asked kind rules.0 rules.1 told before after
 AskSays kind (Ok rules) (Err f) before after = ⊥
-AskSays kind (Err e) (Ok yes) before after = ⊥
+AskSays kind (Err e) (Ok told) before after = ⊥
 AskSays kind (Err e) (Err f) before after = (f ≡ e) × (after ≡ before)
 
 -- a yes says that the sheet meets the definition, and then the relation holds
-pub record Verified (kind : Kind) (A B : Implication) (sheet : Sheet) (yes : Bool) : Type 0 where
-  pub shown : Decides yes (Shows kind A B sheet)
-  pub holds : yes ≡ true → Holds kind A B
+pub record Verified (kind : Kind) (A B : Implication) (sheet : Sheet) (told : Bool) : Type 0 where
+  pub shown : Decides told (Shows kind A B sheet)
+  pub holds : told ≡ true → Holds kind A B
 
 abbrev pub VerifySays : Kind → Sheet → Result (Implication × Implication) ShelfFault → Result Bool ShelfFault → Type 0
-VerifySays kind sheet (Ok rules) (Ok yes) = Verified kind rules.0 rules.1 sheet yes
+VerifySays kind sheet (Ok rules) (Ok told) = Verified kind rules.0 rules.1 sheet told
 VerifySays kind sheet (Ok rules) (Err f) = ⊥
-VerifySays kind sheet (Err e) (Ok yes) = ⊥
+VerifySays kind sheet (Err e) (Ok told) = ⊥
 VerifySays kind sheet (Err e) (Err f) = f ≡ e
 
 -- rules are held under both numbers, and the relation holds between them

@@ -41,12 +41,12 @@ DoneRight (Err f) answer = answer ≡ Refused f
 
 -- the answer says yes with a sheet that shows the relation, or no exactly where no facts and matches meet its definition
 pub data AskRight (kind : Kind) (A B : Implication) (answer : Answer) : Type 0 where
-  yes : (sheet : Sheet) → answer ≡ Yes sheet → Shows kind A B sheet → Holds kind A B → AskRight kind A B answer
-  no : answer ≡ No → (Holds kind A B → ⊥) → AskRight kind A B answer
+  holds : (sheet : Sheet) → answer ≡ Yes sheet → Shows kind A B sheet → Holds kind A B → AskRight kind A B answer
+  denied : answer ≡ No → (Holds kind A B → ⊥) → AskRight kind A B answer
 
 -- the answer says whether the sheet meets the definition
 abbrev pub VerifyRight : Kind → Sheet → Implication → Implication → Answer → Type 0
-VerifyRight kind sheet A B answer = (yes : Bool) × (answer ≡ Verified yes) × VerifiedRight kind A B sheet yes
+VerifyRight kind sheet A B answer = (told : Bool) × (answer ≡ Verified told) × VerifiedRight kind A B sheet told
 
 -- the answer is right for two rules, or is the refusal for want of one
 abbrev pub PairRight : (Implication → Implication → Answer → Type 0) → Result (Implication × Implication) ShelfFault → Answer → Type 0

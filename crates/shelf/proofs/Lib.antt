@@ -1,0 +1,3 @@
+pub mod Slots
+pub mod Ordered
+pub mod Graded
