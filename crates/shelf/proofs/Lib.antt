@@ -1,3 +1,5 @@
 pub mod Slots
+pub mod Ordered
+pub mod Graded
 pub mod Admitting
 pub mod Lawful
