@@ -1,6 +1,6 @@
 //! Each kind of line with its smallest and its largest numbers, in buffers of just enough bytes, of one less and of more.
 use crate::{Line, line};
-use faults::{AtomFault, EntryFault, Fault, LineFault, VolumeFault};
+use faults::{AtomFault, EntryFault, Fault, LineFault, SourceFault, VolumeFault};
 use std::alloc::Global;
 use std::process::Abort;
 use std::test::Fail;
@@ -123,9 +123,12 @@ fn lines_of_faults(rt: HostRuntime) -> Result<(), Fail> {
     Ok(())
 }
 
+/// All refusals are printed in one form, whatever their type.
 #[test]
-fn the_refusal(rt: HostRuntime) -> Result<(), Fail> {
+fn refusals(rt: HostRuntime) -> Result<(), Fail> {
     let text = format!(in rt.alloc(); "{}", LineFault::ShortBuffer)?;
     assert_eq!(rt; text.as_str(), "X 23 8 0 0");
+    let text = format!(in rt.alloc(); "{}", SourceFault::WrongRow { row: 4095 })?;
+    assert_eq!(rt; text.as_str(), "X 16 7 0 4095");
     Ok(())
 }
