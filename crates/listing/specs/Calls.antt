@@ -1,15 +1,14 @@
 -- The calls that a listing makes, and what is printed of each answer (below the contract of the whole).
-use Rattle.std.specs.Prelude.{ℕ, zero, suc, ◌+◌, List, [], ◌∷◌, ◌++◌, map}
-use Rattle.std.specs.List.{concat}
+use Rattle.std.specs.Prelude.{◌≡◌, ℕ, zero, suc, ◌+◌, List, [], ◌∷◌, ◌++◌, map, length}
+use Rattle.std.specs.List.{flat_map, zip}
 use Rattle.rules.specs.Logic.{Numbered}
 use Rattle.reliances.specs.declared.sheet.Kind.{Kind}
 use Rattle.reliances.specs.declared.sheet.Kind.TheVariants.{Positive, Restraint}
-use Rattle.volumes.specs.declared.rule_volume.Rules.{Rules}
-use Rattle.volumes.specs.declared.volume.Volume.{Volume}
 use Rattle.shelf.specs.declared.calls.Call.{Call}
 use Rattle.shelf.specs.declared.calls.Call.TheVariants as call
 use Rattle.shelf.specs.declared.calls.Answer.{Answer}
 use Rattle.shelf.specs.declared.calls.Answer.TheVariants as answer
+use Rattle.shelf.specs.Runs.{Ran}
 use Rattle.lines.specs.declared.kinds.Line.TheVariants as line
 use Rattle.lines.specs.Lines.{ended_text}
 use Rattle.listing.specs.Listing.{line_of}
@@ -18,26 +17,24 @@ use Rattle.listing.specs.Listing.{line_of}
 abbrev pub numbers : List Numbered → List ℕ
 numbers rs = map (λ x. x.number) rs
 
--- the admissions of n rules of the volume, from index i on
-abbrev pub admitting : Volume Rules → ℕ → ℕ → List Call
-admitting volume i zero = []
-admitting volume i (suc n) = call.Admit volume i ∷ admitting volume (i + 1) n
+-- n admissions, from index i on
+abbrev pub admitting : (ℕ → Call) → ℕ → ℕ → List Call
+admitting admit i zero = []
+admitting admit i (suc n) = admit i ∷ admitting admit (i + 1) n
 
 -- the questions about the rules of two numbers, about one and each of several, and about each two; then the grading
 abbrev pub pair_calls : ℕ → ℕ → List Call
 pair_calls a b = call.Ask Positive a b ∷ (call.Ask Restraint a b ∷ [])
 
 abbrev pub row_calls : List ℕ → ℕ → List Call
-row_calls ns a = concat (map (pair_calls a) ns)
+row_calls ns a = flat_map (pair_calls a) ns
 
 abbrev pub asking : List ℕ → List Call
-asking ns = concat (map (row_calls ns) ns) ++ (call.Grade ∷ [])
+asking ns = flat_map (row_calls ns) ns ++ (call.Grade ∷ [])
 
 -- a line for each number and its grade, as far as both lists go
 abbrev pub grade_lines : List ℕ → List ℕ → List ℕ
-grade_lines [] gs = []
-grade_lines (n ∷ ns) [] = []
-grade_lines (n ∷ ns) (g ∷ gs) = ended_text (line.Grade n g) ++ grade_lines ns gs
+grade_lines ns gs = flat_map (λ p. ended_text (line.Grade p.0 p.1)) (zip ns gs)
 
 -- what is printed of the answer to a question
 abbrev pub answer_text : Kind → ℕ → ℕ → Answer → List ℕ
@@ -67,6 +64,8 @@ text_of ns (call.Verify kind a b sheet) x = []
 
 -- what is printed of all answers, as far as both lists go
 abbrev pub all_texts : List ℕ → List Call → List Answer → List ℕ
-all_texts ns [] xs = []
-all_texts ns (c ∷ cs) [] = []
-all_texts ns (c ∷ cs) (x ∷ xs) = text_of ns c x ++ all_texts ns cs xs
+all_texts ns cs xs = flat_map (λ p. text_of ns p.0 p.1) (zip cs xs)
+
+-- the text is what is printed of the calls, each answered on a new shelf
+abbrev pub RunPrinted : List ℕ → List Call → List ℕ → Type 0
+RunPrinted ns cs text = (before answers : List Answer) × (length before ≡ length cs) × Ran cs (length cs) before answers × (text ≡ all_texts ns cs answers)

@@ -1,6 +1,6 @@
 -- What is printed of a rule volume.
-use Rattle.std.specs.Prelude.{◌≡◌, ℕ, List, [], ◌∷◌, ◌++◌, map, Ok, Err}
-use Rattle.std.specs.List.{concat}
+use Rattle.std.specs.Prelude.{◌≡◌, ℕ, List, [], ◌∷◌, ◌++◌, Ok, Err}
+use Rattle.std.specs.List.{flat_map}
 use Rattle.faults.specs.declared.Fault.{Fault}
 use Rattle.rules.specs.Logic.{Numbered}
 use Rattle.rules.specs.Reliances.{Keeps}
@@ -30,7 +30,7 @@ of_pair a b = record { kind = Positive; first = a; second = b } ∷ (record { ki
 
 -- for each first rule, and for each second rule
 abbrev pub questions : List Numbered → List Question
-questions rs = concat (map (λ a. concat (map (of_pair a) rs)) rs)
+questions rs = flat_map (λ a. flat_map (of_pair a) rs) rs
 
 -- a line where the relation holds, and nothing where it does not
 pub data Answers (q : Question) (text : List ℕ) : Type 0 where
@@ -44,7 +44,7 @@ Texts Is (x ∷ xs) text = (this rest : List ℕ) × (text ≡ this ++ rest) × 
 
 -- a line for each rule, with its number in the least numbering; or one line, where no numbering keeps the reliances
 pub data Grades (rs : List Numbered) (text : List ℕ) : Type 0 where
-  graded : (grade : ℕ → ℕ) → LeastNumbering rs grade → text ≡ concat (map (λ x. ended_text (line.Grade x.number (grade x.number))) rs) → Grades rs text
+  graded : (grade : ℕ → ℕ) → LeastNumbering rs grade → text ≡ flat_map (λ x. ended_text (line.Grade x.number (grade x.number))) rs → Grades rs text
   none : ((grade : ℕ → ℕ) → Keeps rs grade → ⊥) → text ≡ ended_text line.NoGrades → Grades rs text
 
 -- the lines of the relations, and then those of the grades

@@ -1,6 +1,6 @@
 //! The calls that a listing makes.
-ghost use Rattle.std.specs.Prelude.{◌≡◌, ◌++◌, map, IfOk, OnOk, length};
-ghost use Rattle.std.specs.List.{concat};
+ghost use Rattle.std.specs.Prelude.{◌≡◌, ◌++◌, IfOk, OnOk, length};
+ghost use Rattle.std.specs.List.{flat_map};
 ghost use Rattle.volumes.specs.Volumes.{rules_of};
 ghost use Rattle.listing.specs.Calls.{numbers, admitting, pair_calls, row_calls, asking};
 
@@ -29,7 +29,7 @@ pub(crate) fn calls_for<'a>(
     numbers: &[u16],
     heap: Global,
 ) -> Result<Vec<Call<'a>>, AllocError>
-    ensures { IfOk result (λ calls. calls.items ≡ admitting volume.now 0 (length numbers.now) ++ asking numbers.now) }
+    ensures { IfOk result (λ calls. calls.items ≡ admitting (Call.Admit volume.now) 0 (length numbers.now) ++ asking numbers.now) }
 {
     let mut calls = Vec::new(heap);
     for index in 0..numbers.len() {
@@ -45,7 +45,7 @@ pub(crate) fn calls_for<'a>(
 
 /// The questions about each first rule and each second one.
 fn push_all(numbers: &[u16], calls: &mut Vec<Call<'_>>) -> Result<(), AllocError>
-    ensures { OnOk result (calls.new.items ≡ calls.old.items ++ concat (map (row_calls numbers.now) numbers.now)) }
+    ensures { OnOk result (calls.new.items ≡ calls.old.items ++ flat_map (row_calls numbers.now) numbers.now) }
 {
     for first in numbers {
         push_row(*first, numbers, calls)?;
@@ -66,12 +66,15 @@ fn push_row(first: u16, numbers: &[u16], calls: &mut Vec<Call<'_>>) -> Result<()
 fn push_pair(first: u16, second: u16, calls: &mut Vec<Call<'_>>) -> Result<(), AllocError>
     ensures { OnOk result (calls.new.items ≡ calls.old.items ++ pair_calls first second) }
 {
-    for kind in [Kind::Positive, Kind::Restraint] {
-        calls.push(Call::Ask {
-            kind,
-            first,
-            second,
-        })?;
-    }
+    calls.push(Call::Ask {
+        kind: Kind::Positive,
+        first,
+        second,
+    })?;
+    calls.push(Call::Ask {
+        kind: Kind::Restraint,
+        first,
+        second,
+    })?;
     Ok(())
 }

@@ -19,8 +19,8 @@ pub(crate) fn push_all(
     ensures { IfOk result (λ text. text.items ≡ all_texts numbers.now calls.now answers.now) }
 {
     let mut text = Vec::new(heap);
-    for (call, answer) in calls.iter().zip(answers) {
-        push_text(numbers, call, answer, &mut text)?;
+    for i in 0..calls.len().min(answers.len()) {
+        push_text(numbers, &calls[i], &answers[i], &mut text)?;
     }
     Ok(text)
 }
@@ -82,10 +82,10 @@ fn push_grading(numbers: &[u16], answer: &Answer, text: &mut Vec<u8>) -> Result<
 fn push_grades(numbers: &[u16], grades: &[u8], text: &mut Vec<u8>) -> Result<(), AllocError>
     ensures { OnOk result (text.new.items ≡ text.old.items ++ grade_lines numbers.now grades.now) }
 {
-    for (rule, grade) in numbers.iter().zip(grades) {
+    for i in 0..numbers.len().min(grades.len()) {
         let line = Line::Grade {
-            rule: *rule,
-            grade: *grade,
+            rule: numbers[i],
+            grade: grades[i],
         };
         push_line(&line, text)?;
     }

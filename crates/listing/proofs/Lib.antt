@@ -1,0 +1,4 @@
+pub mod Zipped
+pub mod Admissions
+pub mod Asking
+pub mod Printing
