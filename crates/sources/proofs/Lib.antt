@@ -7,3 +7,4 @@ pub mod Order
 pub mod Turns
 pub mod Standing
 pub mod Ways
+pub mod Earlier

@@ -5,3 +5,4 @@ pub mod Few
 pub mod VolumeFacts
 pub mod Ways
 pub mod Searching
+pub mod Finding

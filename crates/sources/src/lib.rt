@@ -3,6 +3,7 @@
 
 mod addition;
 mod addition_source;
+mod finding;
 mod known;
 mod matching;
 mod own_facts;
@@ -16,6 +17,7 @@ mod tests;
 mod volume_source;
 
 pub use addition::Addition;
+pub use finding::find;
 pub use matching::{first_match, is_satisfied, next_match};
 pub use row_table::RowTable;
 pub use rows::check_rows;
