@@ -6,3 +6,6 @@ pub mod VolumeFacts
 pub mod Ways
 pub mod Searching
 pub mod Finding
+pub mod Applying
+pub mod Numbering
+pub mod Piles

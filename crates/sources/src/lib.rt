@@ -3,10 +3,14 @@
 
 mod addition;
 mod addition_source;
+mod applying;
 mod finding;
 mod known;
 mod matching;
+mod nulls;
+mod numbering;
 mod own_facts;
+mod piles;
 mod row_source;
 mod row_table;
 mod rows;
@@ -19,6 +23,7 @@ mod volume_source;
 pub use addition::Addition;
 pub use finding::find;
 pub use matching::{first_match, is_satisfied, next_match};
+pub use piles::{Application, find_after};
 pub use row_table::RowTable;
 pub use rows::check_rows;
 pub use source::FactSource;
