@@ -12,7 +12,7 @@ use Rattle.rules.specs.Same.{number_of}
 use Rattle.rules.specs.Matches.{Ground, IsNull, IsFact, Facts, Stands, Assignment, value, under, Match, Satisfied, Unsatisfied, Fresh, Applies}
 use Rattle.rules.proofs.Membership.{stands_decided, false_from, decides_false}
 use Rattle.matches.specs.Lists.{formulas, under_atom, FactAtom, Sized}
-use Rattle.matches.proofs.Basics.{in_map, from_map, in_terms, from_terms, under_same, each_index, either}
+use Rattle.matches.proofs.Basics.{in_map, from_map, in_terms, under_same, each_index, either, cons_path}
 use Rattle.matches.proofs.Steps.{no_atom, of_under}
 use Rattle.volumes.specs.Answers.{Nth}
 use Rattle.sources.specs.Applying.{FirstNew, new_in_order, Filling, Applied}
@@ -117,7 +117,7 @@ module _ (r : Implication) (h k : Assignment) (F : List Formula) (n : ℕ) (f : 
 -- what the filled atoms mean
 pub filled_meaning : (k : Assignment) (atoms : List Atom) → formulas (map (under_atom k) atoms) ≡ map (under k) (formulas atoms)
 filled_meaning k [] = refl
-filled_meaning k (a ∷ atoms) = Rattle.matches.proofs.Basics.cons_path (of_under k a) (filled_meaning k atoms)
+filled_meaning k (a ∷ atoms) = cons_path (of_under k a) (filled_meaning k atoms)
 
 pub applied : (r : Implication) (h : Assignment) (F : List Formula) (k : Assignment) (own : List Formula) → Applicable r h F k → own ≡ map (under k) r.head → Applied r h F own
 applied r h F k own a e =

@@ -1,6 +1,6 @@
 -- New nulls: which number is the first, and what the variables of a head are given.
 -- Assumes nothing.
-use Rattle.std.proofs.Common.{◌≡◌, ℕ, ◌+◌, ◌-◌, ◌<◌, ◌≤◌, ◌≢◌, Bool, true, false, ◌⊎◌, List, [], ◌∷◌, ◌++◌, length, get_or, take, max, set, Some, append_assoc, inl, inr, refl, sym, subst, ap, ◌∙◌, ⊎_elim, arith}
+use Rattle.std.proofs.Common.{◌≡◌, ℕ, ◌+◌, ◌-◌, ◌<◌, ◌≤◌, ◌≢◌, Bool, true, false, ◌⊎◌, List, [], ◌∷◌, ◌++◌, length, get_or, take, max, set, Some, inl, inr, refl, sym, subst, ap, ◌∙◌, ⊎_elim, arith}
 use Rattle.std.proofs.lemmas.Bool.{cases_lt, false≢true}
 use Rattle.std.proofs.lemmas.List.{append-nil, take-append-drop, length-append, get_or-set_same, get_or-set_other, get_or_append_left, get_or-append_right}
 use Rattle.std.proofs.Math.ListN.{drop}
@@ -16,12 +16,8 @@ use Rattle.sources.specs.Searching.{KnownWith}
 use Rattle.sources.specs.Applying.{FirstNew, new_variables, new_in_order, NullsFit}
 use Rattle.sources.specs.Numbering.{LeastAbove, Given, FillingAnswer}
 use Rattle.sources.proofs.Listed.{in_nth}
-use Rattle.sources.proofs.Knowing.{take_more, known_none, known_then}
+use Rattle.sources.proofs.Knowing.{take_more, terms_both, known_none, known_then}
 use Rattle.sources.proofs.NewVariables.{same_variables, same_bool, variables_append, more_variables, not_old, new_stands}
-
-terms_both : (xs ys : List Formula) → terms_of (xs ++ ys) ≡ terms_of xs ++ terms_of ys
-terms_both [] ys = refl
-terms_both (a ∷ xs) ys = ap (λ z. a.terms ++ z) (terms_both xs ys) ∙ sym (append_assoc a.terms (terms_of xs) (terms_of ys))
 
 -- the terms of the first formulas, and those of the next
 pub terms_next : (F : List Formula) (i : ℕ) (d : Formula) → i < length F → terms_of (take (i + 1) F) ≡ terms_of (take i F) ++ (get_or F i d).terms

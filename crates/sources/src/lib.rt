@@ -1,4 +1,5 @@
-//! Sources of facts: what all of them mean, three kinds of them, and the search for a rule's matches on any of them.
+//! Sources of facts: what all of them mean, three kinds of them, the search for a rule's matches on any of them, and what a
+//! rule that is applied there adds.
 #![tactic(auto)]
 
 mod addition;
