@@ -7,3 +7,8 @@ pub mod Order
 pub mod Turns
 pub mod Standing
 pub mod Ways
+pub mod Earlier
+pub mod NewVariables
+pub mod NewNulls
+pub mod Applications
+pub mod Calls

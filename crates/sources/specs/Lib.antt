@@ -5,3 +5,7 @@ pub mod Few
 pub mod VolumeFacts
 pub mod Ways
 pub mod Searching
+pub mod Finding
+pub mod Applying
+pub mod Numbering
+pub mod Piles

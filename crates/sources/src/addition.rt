@@ -2,7 +2,7 @@
 ghost use Rattle.std.specs.Prelude.{◌≡◌, ◌≤◌, length, []};
 ghost use Rattle.rules.specs.Logic.{Each};
 ghost use Rattle.matches.specs.Lists.{FactAtom};
-ghost use Rattle.sources.specs.Additions.{own_atoms};
+ghost use Rattle.sources.specs.Additions.{own_atoms, own_facts};
 
 use crate::own_facts::OwnFacts;
 use crate::source::FactSource;
@@ -20,6 +20,7 @@ impl<S: FactSource> Addition<S> {
     pub fn new(below: S) -> Addition<S>
         ensures same { ⟦<Addition<S> as FactSource>⟧.facts result ≡ S.facts below }
         ensures below { result.below ≡ below }
+        ensures own { own_facts result.own ≡ [] }
     {
         Addition {
             below,

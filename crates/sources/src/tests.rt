@@ -1,4 +1,4 @@
-//! Additions with facts of their own, which nothing outside gives them yet.
+//! Additions with any facts of their own, also with such as no application gives them.
 use crate::{Addition, FactSource, RowTable, first_match, is_satisfied};
 use matches::are_facts;
 use rules::{Atom, Rule, RuleParts, Term};

@@ -1,61 +1,12 @@
 //! The matches of rules on sources, one after another, and whether they are satisfied.
 use crate::build::{atom, c, fact_volume, many_rows, n, rule, x};
-use rules::{Atom, Rule, Term};
+use crate::seen::{STALE_ROWS, Seen, open, satisfied, stale_terms};
+use rules::{Atom, Rule};
 use sources::{Addition, FactSource, RowTable, first_match, is_satisfied, next_match};
 use std::alloc::Global;
 use std::process::Abort;
 use std::test::Fail;
 use volumes::FactVolume;
-
-/// A match: the rows of the body atoms, what the variables are given, and the rows of the head atoms where it is satisfied.
-/// Places that a search is not to write are as before it.
-#[derive(Clone, Copy)]
-struct Seen {
-    rows: [u16; 6],
-    values: [Term; 12],
-    head: Option<[u16; 6]>,
-}
-
-/// What stands in the places before a search.
-const STALE_ROWS: [u16; 6] = [60, 61, 62, 63, 64, 65];
-
-fn stale_terms() -> [Term; 12] {
-    let mut terms = [Term::Constant(0); 12];
-    for (term, number) in terms.iter_mut().zip(300..) {
-        *term = x(number);
-    }
-    terms
-}
-
-/// The first places of a stack, and stale rows past them.
-fn stack_of(rows: &[u16]) -> [u16; 6] {
-    let mut stack = STALE_ROWS;
-    for (place, row) in stack.iter_mut().zip(rows) {
-        *place = *row;
-    }
-    stack
-}
-
-/// A match that is not satisfied. The variables are given the terms, those from `from` on.
-fn open(rows: &[u16], from: usize, terms: &[Term]) -> Seen {
-    let mut values = stale_terms();
-    for (place, term) in values.iter_mut().skip(from).zip(terms) {
-        *place = *term;
-    }
-    Seen {
-        rows: stack_of(rows),
-        values,
-        head: None,
-    }
-}
-
-/// A match that is satisfied by these rows.
-fn satisfied(rows: &[u16], from: usize, terms: &[Term], head: &[u16]) -> Seen {
-    Seen {
-        head: Some(stack_of(head)),
-        ..open(rows, from, terms)
-    }
-}
 
 /// The match is satisfied by these rows, or not at all.
 fn expect_head<S: FactSource>(
