@@ -14,4 +14,6 @@ mod grading;
 #[cfg(test)]
 mod holding;
 #[cfg(test)]
+mod page;
+#[cfg(test)]
 mod runs;
