@@ -1,19 +1,17 @@
 -- What comes of admitting a rule, by what stands in the slots.
 -- Assumes nothing.
-use Rattle.std.proofs.Common.{◌≡◌, ℕ, ◌<◌, ◌≤◌, Bool, true, false, cond, List, length, Some, None, Option, MatchOption, IsSome, Ok, Err, Result, sym, refl, ap, ◌∙◌, arith}
+use Rattle.std.proofs.Common.{◌≡◌, ℕ, ◌<◌, true, false, List, length, Some, None, Option, MatchOption, IsSome, Ok, Err, sym, ap, ◌∙◌, arith}
 use Rattle.std.specs.Option.{ok_or, is_some}
 use Rattle.std.proofs.lemmas.Bool.{lt-ltb, le-ltb, false≢true}
 use Rattle.std.proofs.lemmas.Option.{slice_get-get_or}
-use Rattle.faults.specs.declared.shelf.ShelfFault.{ShelfFault}
 use Rattle.faults.specs.declared.shelf.ShelfFault.TheVariants.{Full, AlreadyHeld, NoRule}
 use Rattle.rules.specs.Logic.{Numbered}
-use Rattle.rules.specs.Bounds.{some}
 use Rattle.volumes.specs.declared.rule_volume.NumberedRule.{NumberedRule}
 use Rattle.volumes.specs.Answers.{Nth}
 use Rattle.volumes.specs.Reading.{and_then}
 use Rattle.volumes.specs.Volumes.{numbered}
 use Rattle.shelf.specs.Slots.{slot, slot_has?, sorted}
-use Rattle.shelf.specs.Held.{has_number?, allowed, admission}
+use Rattle.shelf.specs.Held.{allowed, admission}
 use Rattle.shelf.proofs.Slots.{none_sorted, some_sorted, all_sorted, fewer_sorted}
 
 -- what a search for a slot found, where it found one, and where not

@@ -1,6 +1,6 @@
 -- The law over runs, call by call.
 -- Assumes nothing.
-use Rattle.std.proofs.Common.{◌≡◌, ℕ, ◌+◌, ◌<◌, ◌≤◌, ◌≢◌, Bool, true, false, List, [], ◌∷◌, ◌++◌, length, get_or, set, take, drop, min, Ok, Err, Result, sym, refl, ap, subst, inl, inr, ⊎_elim, ◌⊎◌, ◌∙◌, arith}
+use Rattle.std.proofs.Common.{◌≡◌, ℕ, ◌+◌, ◌<◌, ◌≤◌, ◌≢◌, Bool, true, List, [], ◌∷◌, ◌++◌, length, get_or, set, take, drop, Ok, Err, Result, sym, refl, ap, subst, inl, inr, ◌⊎◌, ◌∙◌, arith}
 use Rattle.std.proofs.lemmas.Bool.{cases_eq}
 use Rattle.std.proofs.lemmas.List.{get_or-set_same, get_or-set_other, length-set, take_more, drop-set-lt}
 use Rattle.faults.specs.declared.shelf.ShelfFault.{ShelfFault}
@@ -12,7 +12,7 @@ use Rattle.shelf.specs.declared.calls.Call.{Call}
 use Rattle.shelf.specs.declared.calls.Answer.{Answer}
 use Rattle.shelf.specs.declared.calls.Answer.TheVariants.{Yes}
 use Rattle.shelf.specs.Calls.{AskSays}
-use Rattle.shelf.specs.Runs.{after, after_all, held_after, AskRight, holds, PairRight, Right, Ran}
+use Rattle.shelf.specs.Runs.{after, after_all, held_after, AskRight, holds, PairRight, Right}
 
 pub asked_yes : (kind : Kind) (r : Result (Implication × Implication) ShelfFault) (told : Bool) (before after : Sheet) → told ≡ true → AskSays kind r (Ok told) before after → PairRight (AskRight kind) r (Yes after)
 asked_yes kind (Ok p) told before after e says = holds after refl (says.shown e) (says.holds.0 e)

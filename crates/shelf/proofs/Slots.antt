@@ -12,7 +12,7 @@ use Rattle.rules.specs.Rules.{meaning}
 use Rattle.volumes.specs.declared.rule_volume.NumberedRule.{NumberedRule}
 use Rattle.volumes.specs.Volumes.{numbered}
 use Rattle.shelf.specs.Slots.{slot, slot_has?, inserted, sorted}
-use Rattle.shelf.specs.Held.{has_number?, under, both_under, without, done}
+use Rattle.shelf.specs.Held.{has_number?, under, without, done}
 
 -- ---- rules by rising number
 
@@ -368,9 +368,6 @@ one_more P k below here i l = ⊎_elim (λ (a : i < k). below i a) (λ (a : k �
 
 pub held_none : (n : ℕ) (slots : List (Option NumberedRule)) → ((i : ℕ) → slot_has? n (slot slots i) ≡ false) → under (sorted slots) n ≡ Err (NotHeld n)
 held_none n slots none = under_none n (sorted slots) (none_sorted n slots none)
-
-pub both_ok : (rs : List Numbered) (a b : ℕ) (A B : Implication) → under rs a ≡ Ok A → under rs b ≡ Ok B → both_under rs a b ≡ Ok (A, B)
-both_ok rs a b A B p q = rw (p, q) refl
 
 -- ---- no rules at all
 

@@ -1,5 +1,5 @@
 -- Which rules a shelf holds, and what each call that changes them leaves.
-use Rattle.std.specs.Prelude.{◌≡◌, ℕ, Bool, cond, not, List, [], ◌∷◌, length, Ok, Err, Result, ◌==◌, nat_lt, slice_get}
+use Rattle.std.specs.Prelude.{ℕ, Bool, cond, not, List, [], ◌∷◌, length, Ok, Err, Result, ◌==◌, nat_lt, slice_get}
 use Rattle.std.specs.List.{filter}
 use Rattle.std.specs.Option.{ok_or}
 use Rattle.faults.specs.declared.shelf.ShelfFault.{ShelfFault}

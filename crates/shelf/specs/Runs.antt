@@ -1,5 +1,5 @@
 -- The law over runs: what any list of calls on a new shelf is answered. Which rules are held is told by the calls alone.
-use Rattle.std.specs.Prelude.{◌≡◌, ℕ, ◌<◌, Bool, true, false, List, [], ◌∷◌, length, take, drop, min, replicate, Ok, Err, Result}
+use Rattle.std.specs.Prelude.{◌≡◌, ℕ, ◌<◌, Bool, List, [], ◌∷◌, length, take, drop, min, replicate, Ok, Err, Result}
 use Rattle.faults.specs.declared.shelf.ShelfFault.{ShelfFault}
 use Rattle.faults.specs.declared.shelf.ShelfFault.TheVariants.{NoNumbering}
 use Rattle.rules.specs.Logic.{Implication, Numbered}
@@ -14,7 +14,7 @@ use Rattle.shelf.specs.declared.calls.Call.{Call}
 use Rattle.shelf.specs.declared.calls.Call.TheVariants.{Admit, Withdraw, Ask, Verify, Grade}
 use Rattle.shelf.specs.declared.calls.Answer.{Answer}
 use Rattle.shelf.specs.declared.calls.Answer.TheVariants.{Done, Refused, Yes, No, Verified, Graded}
-use Rattle.shelf.specs.Held.{under, both_under, admission, with_admitted, without, done}
+use Rattle.shelf.specs.Held.{under, both_under, admission, with_admitted, without}
 use Rattle.shelf.specs.Calls.{Verified as VerifiedRight, Graded as GradedRight}
 
 -- the rules held after a call, where rs are held before it

@@ -1,5 +1,5 @@
 -- What the slots of a shelf hold.
-use Rattle.std.specs.Prelude.{◌≡◌, ℕ, Bool, true, false, cond, List, [], ◌∷◌, Some, None, Option, ◌==◌, nat_lt, slice_index_or}
+use Rattle.std.specs.Prelude.{ℕ, Bool, false, cond, List, [], ◌∷◌, Some, None, Option, ◌==◌, nat_lt, slice_index_or}
 use Rattle.rules.specs.Logic.{Numbered}
 use Rattle.volumes.specs.declared.rule_volume.NumberedRule.{NumberedRule}
 use Rattle.volumes.specs.Volumes.{numbered}

@@ -19,8 +19,7 @@ impl Shelf {
     ) -> Result<bool, ShelfFault>
         ensures { AskSays kind (both_under (rules_on self.now) first second) result sheet.old sheet.new }
     {
-        let first = self.held(first)?;
-        let second = self.held(second)?;
+        let (first, second) = self.both(first, second)?;
         Ok(reliances::ask(kind, first, second, sheet))
     }
 
@@ -35,8 +34,7 @@ impl Shelf {
     ) -> Result<bool, ShelfFault>
         ensures { VerifySays kind sheet.now (both_under (rules_on self.now) first second) result }
     {
-        let first = self.held(first)?;
-        let second = self.held(second)?;
+        let (first, second) = self.both(first, second)?;
         Ok(reliances::verify(kind, first, second, sheet))
     }
 }

@@ -3,7 +3,7 @@ ghost use Rattle.std.specs.Prelude.{◌≡◌, []};
 ghost use Rattle.std.specs.Result.{result_map_both};
 ghost use Rattle.rules.specs.Rules.{meaning};
 ghost use Rattle.volumes.specs.Volumes.{rules_of};
-ghost use Rattle.shelf.specs.Held.{rules_on, under, admission, with_admitted, without, done};
+ghost use Rattle.shelf.specs.Held.{rules_on, under, both_under, admission, with_admitted, without, done};
 
 use crate::shelf::{Shelf, find_free, find_number, find_rule};
 use faults::ShelfFault;
@@ -59,6 +59,15 @@ impl Shelf {
             return Err(ShelfFault::NotHeld { number });
         };
         Ok(rule)
+    }
+
+    /// The rules held under both numbers, or refusal 13 of the first that is not held.
+    pub(crate) fn both(&self, first: u16, second: u16) -> Result<(&Rule, &Rule), ShelfFault>
+        ensures { result_map_both (λ r. (meaning r.0.now, meaning r.1.now)) (λ f. f) result ≡ both_under (rules_on self.now) first second }
+    {
+        let first = self.held(first)?;
+        let second = self.held(second)?;
+        Ok((first, second))
     }
 
     /// A copy of the rule held under the number. Refused: 13 where none is.

@@ -64,6 +64,30 @@ fn rule_bytes(heap: Global, body: &[Atom], head: &[Atom]) -> Result<Vec<u8>, Fai
     Ok(bytes)
 }
 
+/// A rule to be, under its number.
+#[derive(Clone, Copy)]
+pub struct Written<'a> {
+    pub number: u16,
+    pub body: &'a [Atom],
+    pub head: &'a [Atom],
+}
+
+/// The volume of these rules.
+pub fn volume(heap: Global, rules: &[Written<'_>]) -> Result<Vec<u8>, Fail> {
+    let mut bytes = Vec::new(heap);
+    let mut bodies = Vec::new(heap);
+    bytes.push(1)?;
+    push_number(&mut bytes, u16::try_from(rules.len())?)?;
+    for rule in rules {
+        let body = rule_bytes(heap, rule.body, rule.head)?;
+        push_number(&mut bytes, rule.number)?;
+        push_number(&mut bytes, u16::try_from(body.len())?)?;
+        bodies.extend_from_slice(&body)?;
+    }
+    bytes.extend_from_slice(&bodies)?;
+    Ok(bytes)
+}
+
 /// The volume of this rule alone.
 pub fn rule_volume(
     heap: Global,
@@ -71,14 +95,7 @@ pub fn rule_volume(
     body: &[Atom],
     head: &[Atom],
 ) -> Result<Vec<u8>, Fail> {
-    let rule = rule_bytes(heap, body, head)?;
-    let mut bytes = Vec::new(heap);
-    bytes.push(1)?;
-    push_number(&mut bytes, 1)?;
-    push_number(&mut bytes, number)?;
-    push_number(&mut bytes, u16::try_from(rule.len())?)?;
-    bytes.extend_from_slice(&rule)?;
-    Ok(bytes)
+    volume(heap, &[Written { number, body, head }])
 }
 
 /// Admits the rule under the number.

@@ -1,9 +1,8 @@
 //! The grades of the rules that a shelf holds.
-use crate::build::{admit, atom, c, x};
+use crate::archive::{admit_frame, admit_link, admit_master, admit_ninth, admit_transitive};
+use crate::build::{admit, atom, x};
 use crate::expect::{expect_grades, expect_no_grades};
-use rules::Atom;
 use shelf::{PairCounts, Shelf};
-use std::alloc::Global;
 use std::test::Fail;
 
 fn counts(reliances: u16, restraints: u16) -> PairCounts {
@@ -11,47 +10,6 @@ fn counts(reliances: u16, restraints: u16) -> PairCounts {
         reliances,
         restraints,
     }
-}
-
-fn frame() -> Atom {
-    atom(1, &[x(0)])
-}
-
-fn master() -> Atom {
-    atom(2, &[x(0), x(1)])
-}
-
-fn flat() -> Atom {
-    atom(3, &[x(0), x(1)])
-}
-
-/// `master(e,f) → flat(e,f)`
-fn admit_master(heap: Global, shelf: &mut Shelf, number: u16) -> Result<(), Fail> {
-    admit(heap, shelf, number, &[master()], &[flat()])
-}
-
-/// `frame(e) → flat(e,f)`
-fn admit_frame(heap: Global, shelf: &mut Shelf, number: u16) -> Result<(), Fail> {
-    admit(heap, shelf, number, &[frame()], &[flat()])
-}
-
-/// `flat(e,f) → flat(e,9)`
-fn admit_ninth(heap: Global, shelf: &mut Shelf, number: u16) -> Result<(), Fail> {
-    admit(heap, shelf, number, &[flat()], &[atom(3, &[x(0), c(9)])])
-}
-
-/// `p(x,y), p(y,z) → p(x,z)`
-fn admit_transitive(heap: Global, shelf: &mut Shelf, number: u16) -> Result<(), Fail> {
-    let body = [atom(5, &[x(0), x(1)]), atom(5, &[x(1), x(2)])];
-    admit(heap, shelf, number, &body, &[atom(5, &[x(0), x(2)])])
-}
-
-/// One of a chain: `given(e) → next(e,e), own(e,f)`, where next of each is own of the following one. So each restrains the
-/// following one, and no other.
-fn admit_link(heap: Global, shelf: &mut Shelf, number: u16, own: u16) -> Result<(), Fail> {
-    let next = atom(own.saturating_add(1), &[x(0), x(0)]);
-    let own = atom(own, &[x(0), x(1)]);
-    admit(heap, shelf, number, &[atom(9, &[x(0)])], &[next, own])
 }
 
 #[test]

@@ -2,8 +2,18 @@
 #![tactic(auto)]
 
 #[cfg(test)]
+mod archive;
+#[cfg(test)]
+mod asking;
+#[cfg(test)]
 mod build;
 #[cfg(test)]
 mod expect;
 #[cfg(test)]
 mod grading;
+#[cfg(test)]
+mod holding;
+#[cfg(test)]
+mod page;
+#[cfg(test)]
+mod runs;

@@ -1,4 +1,4 @@
-use Rattle.std.proofs.Common.{◌≡◌, sym, ap, ◌∙◌, arith}
+use Rattle.std.proofs.Common.{sym, ap, ◌∙◌, arith}
 use Rattle.volumes.specs.Volumes.{rules_of}
 use Rattle.shelf.specs.Held.{done, with_admitted}
 use Rattle.shelf.specs.Slots.{sorted}

@@ -1,4 +1,4 @@
-use Rattle.std.proofs.Common.{◌≡◌, refl, sym}
+use Rattle.std.proofs.Common.{refl, sym}
 use Rattle.shelf.proofs.Slots.{held_none, under_slot}
 use Rattle.shelf.proofs.shelf.Shelf.held.Goals as goal
 

@@ -1,6 +1,5 @@
-use Rattle.std.proofs.Common.{◌≡◌, Ok, Err, Result, ap, sym, ◌∙◌, true, arith}
-use Rattle.faults.specs.declared.shelf.ShelfFault.{ShelfFault}
-use Rattle.shelf.specs.Held.{rules_on, done}
+use Rattle.std.proofs.Common.{ap, sym, arith}
+use Rattle.shelf.specs.Held.{done}
 use Rattle.shelf.proofs.Slots.{held_none, none_left, held_some, sorted_taken, taken_apart}
 use Rattle.shelf.proofs.shelf.Shelf.withdraw.Goals as goal
 
