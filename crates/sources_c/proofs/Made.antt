@@ -20,7 +20,7 @@ taken_map f n xs ys long each a =
     let second = min-le_right (length xs) n in
     let here : k < length xs = omega arith in
     let below : k < n = omega arith in
-    get_or-take m ys k e low ∙ each k below here a e ∙ sym (get_or-map xs f k a e here) ∙ sym (get_or-take n (map f xs) k e below))
+    get_or-take m ys k e low ∙ each k below here a e ∙ sym (get_or-map f xs k a e here) ∙ sym (get_or-take n (map f xs) k e below))
 
 term_back : (t : Term) → term_of (plain_of t) ≡ t
 term_back (Constant n) = refl

@@ -16,7 +16,7 @@ use rows::{ROOM, table};
 use rules::{Rule, Term};
 use sources::{Addition, Application, FactSource, RowTable, check_rows, find, find_after};
 use std::array;
-use told::{facts_from, told};
+use told::{facts_from, said, told};
 use volumes::RuleVolume;
 
 /// What is wrong with the rows.
@@ -42,7 +42,7 @@ pub extern "C" fn pz_find(rows: &[PlainAtom], rules: &[u8], lent: &mut Lent) -> 
     let mut found = terms(&lent.found.terms);
     let answer = find(&rule.rule, &source, &mut lent.stack, &mut found);
     lent.found = plain_given(&found);
-    u8::from(answer)
+    said(answer)
 }
 
 /// What `apply` answers for the first rule of the volume on an addition over a table of the rows: the refusal, or 0; and 14
@@ -107,5 +107,5 @@ pub extern "C" fn pz_find_after(
     let (addition, answer) = find_after(below, calls, &rule.rule, &mut lent.stack, &mut found);
     lent.found = plain_given(&found);
     *own = facts_from(&addition, below.count());
-    u8::from(answer)
+    said(answer)
 }

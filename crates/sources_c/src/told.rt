@@ -1,5 +1,5 @@
 //! Answers in plain fields.
-ghost use Rattle.std.specs.Prelude.{◌≡◌, ◌≤◌, length};
+ghost use Rattle.std.specs.Prelude.{◌≡◌, ◌≤◌, cond, length};
 ghost use Rattle.rules.specs.Logic.{formula_of};
 ghost use Rattle.sources_c.specs.Plain.{atom_of};
 ghost use Rattle.sources_c.specs.Calls.{Tells, FactsFrom, PlainFact};
@@ -24,6 +24,13 @@ pub(crate) fn told(answer: Result<(), SourceFault>) -> Told
             place: fault.place(),
         },
     }
+}
+
+/// 1 for yes, and 0 for no.
+pub(crate) fn said(yes: bool) -> u8
+    ensures { result ≡ cond yes 1 0 }
+{
+    if yes { 1 } else { 0 }
 }
 
 /// The fact of an index in plain fields, or a blank atom where there are not so many.

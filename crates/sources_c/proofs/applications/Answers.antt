@@ -14,5 +14,5 @@ returns c =
     taken_map (call r) 4 gs c.from_fn.result c.from_fn.ensures.items.long
     (λ k l m d e.
     made _ _ (λ i. record { rule = r; found = given_at gs i }) (λ j y q called. search (rules, tests)) c.from_fn.result 4 c.from_fn.ensures.items k l e
-    ∙ ap (λ ts. record { rule = r; found = ts }) (get_or-map gs given_of k d (replicate 12 (Constant 0)) m))
+    ∙ ap (λ ts. record { rule = r; found = ts }) (get_or-map given_of gs k d (replicate 12 (Constant 0)) m))
     (record { terms = [] })

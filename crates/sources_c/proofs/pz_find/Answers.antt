@@ -15,4 +15,4 @@ returns c =
     (subst (λ xs. RowsTaken xs F) (ap (λ n. take n c.table-table.result) c.min.ensures ∙ c.table-table.ensures) c.take_up-source.ensures)
     (numbered c.in-Some.rule)
     (subst (λ bs. Nth (rules_of bs) 0 (numbered c.in-Some.rule)) c.take_up.ensures.same c.in-Some.ensures)
-    (searched _ F c.args.lent.now c.find-answer.result _ _ c.terms-found.ensures c.from.ensures c.plain_given-lent.ensures c.find-answer.ensures.answer)
+    (searched _ F c.args.lent.now c.find-answer.result _ _ c.terms-found.ensures c.said.ensures c.plain_given-lent.ensures c.find-answer.ensures.answer)
