@@ -110,12 +110,12 @@ fn spoil(rows: &mut [PlainAtom], random: &mut Random) {
 fn case(seed: u64, index: u64) -> Case {
     let mut random = Random::of(seed, index);
     let near = random.percent(12);
-    let large = random.below(300) == 0;
+    let large = random.below(150) == 0;
     let rules = two_rules(&mut random);
     let terms = pool(&mut random, near);
     let mut facts = facts_for(&rules, &terms, &mut random);
     if large {
-        let count = random.from(4_088, 4_097);
+        let count = random.from(4_090, 4_097);
         facts = padded(facts, &terms, count, &mut random);
     }
     let mut rows: Vec<PlainAtom> = facts.iter().map(|fact| row(fact, &mut random)).collect();

@@ -122,6 +122,25 @@ fn rule(style: &Style, random: &mut Random, number: u16) -> Rule {
     made
 }
 
+/// A rule of three to six existential variables, of which four are allowed.
+fn open_rule(random: &mut Random, number: u16) -> Rule {
+    let numbers = shuffled(random);
+    let (x, open) = (numbers[0], random.pick(&[3, 4, 4, 5, 6]));
+    let mut terms: Vec<Term> = numbers[1..=open].iter().map(|v| Term::Variable(*v)).collect();
+    for _ in 0..random.below(3) {
+        terms.insert(random.below(terms.len() + 1), Term::Variable(x));
+    }
+    let predicate = random.pick(&NEAR);
+    let body = vec![Atom { predicate, terms: vec![Term::Variable(x)] }];
+    let mut head = Vec::new();
+    while !terms.is_empty() {
+        let arity = random.from(1, terms.len().min(4)).max(terms.len().min(4) / 2);
+        head.push(Atom { predicate: random.pick(&NEAR), terms: terms.drain(..arity).collect() });
+    }
+    head.truncate(4);
+    Rule { number, body, head }
+}
+
 /// Rising rule numbers, 0 and 65,535 among them at times.
 fn numbers(random: &mut Random, count: usize) -> Vec<u16> {
     let mut number = random.pick(&[0, 1, 1, 200]);
@@ -157,12 +176,17 @@ fn right(random: &mut Random) -> (&'static str, Vec<Rule>) {
             let count = if random.percent(10) { random.from(60, 64) } else { random.from(6, 24) };
             ("many rules", rules(&style, random, count))
         }
-        15..=44 => {
+        15..=24 => {
+            let count = random.from(1, 2);
+            let list = numbers(random, count).into_iter().map(|number| open_rule(random, number)).collect();
+            ("many existential variables", list)
+        }
+        25..=59 => {
             let style = bounds_style(random);
             let count = random.from(1, 2);
             ("at the bounds", rules(&style, random, count))
         }
-        45..=199 => {
+        60..=199 => {
             let style = wide_style(random);
             let count = random.from(1, 3);
             ("wide atoms", rules(&style, random, count))

@@ -1,5 +1,6 @@
 //! Calls of `sources` for programs in other languages: facts come as rows of plain fields, rules as the bytes of a volume.
 #![tactic(auto)]
+
 ghost use Rattle.std.specs.Prelude.{◌≡◌, take, min, length};
 ghost use Rattle.volumes.specs.Volumes.{rules_of};
 ghost use Rattle.sources_c.specs.Plain.{rows_of, given_at};
@@ -10,7 +11,6 @@ mod rows;
 mod told;
 
 pub use plain::{Given, Lent, Own, PlainAtom, PlainTerm, Told};
-
 use plain::{plain_given, terms};
 use rows::{ROOM, table};
 use rules::{Rule, Term};

@@ -20,6 +20,6 @@ returns c =
     (subst (λ bs. Nth (rules_of bs) 0 (numbered c.in-Some.rule)) c.take_up.ensures.same c.in-Some.ensures)
     c.apply.result own
     (subst (λ vs. ApplyAnswer r (look vs) F _ c.apply.result own) c.terms.ensures
-      (subst (λ before. ApplyAnswer r (look c.terms.result) F before c.apply.result own) c.new-addition.ensures.own
-        (subst (λ t. ApplyAnswer r (look c.terms.result) (formulas t.rows.now) (own_facts c.new-addition.result.own) c.apply.result own) c.new-addition.ensures.below c.apply.ensures.answer)))
+    (subst (λ before. ApplyAnswer r (look c.terms.result) F before c.apply.result own) c.new-addition.ensures.own
+    (subst (λ t. ApplyAnswer r (look c.terms.result) (formulas t.rows.now) (own_facts c.new-addition.result.own) c.apply.result own) c.new-addition.ensures.below c.apply.ensures.answer)))
     c.told.ensures

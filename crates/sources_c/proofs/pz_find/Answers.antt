@@ -1,6 +1,5 @@
-use Rattle.std.proofs.Common.{subst, ap, ◌∙◌, take, sym}
+use Rattle.std.proofs.Common.{subst, ap, ◌∙◌, take}
 use Rattle.matches.specs.Lists.{formulas}
-use Rattle.rules.specs.Rules.{meaning}
 use Rattle.volumes.specs.Answers.{Nth}
 use Rattle.volumes.specs.Volumes.{rules_of, numbered}
 use Rattle.sources.specs.Rows.{RowsTaken}

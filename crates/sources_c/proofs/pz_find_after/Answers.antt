@@ -1,6 +1,5 @@
-use Rattle.std.proofs.Common.{subst, ap, ◌∙◌, ◌++◌, take, sym, length}
-use Rattle.matches.specs.Lists.{formulas, look}
-use Rattle.rules.specs.Rules.{meaning}
+use Rattle.std.proofs.Common.{subst, ap, ◌∙◌, ◌++◌, take}
+use Rattle.matches.specs.Lists.{formulas}
 use Rattle.volumes.specs.Answers.{Nth}
 use Rattle.volumes.specs.Volumes.{rules_of, numbered, RuleHad}
 use Rattle.sources.specs.Rows.{RowsTaken}
