@@ -1,7 +1,7 @@
 //! Volumes drawn from a seed: right ones of a few small rules, right ones of many rules, ones at the bounds, and damaged
 //! ones.
 
-use crate::atoms::{push_pair, volume_bytes, Atom, Rule, Term};
+use crate::atoms::{push_pair, variables, volume_bytes, Atom, Rule, Term};
 use crate::random::Random;
 
 /// How rules are drawn.
@@ -169,6 +169,38 @@ fn vary(rule: &Rule, style: &Style, random: &mut Random) -> Rule {
     made
 }
 
+/// A rule that matches on what the given one makes, and makes atoms like its own of the same terms: it meets the nulls.
+fn turn(rule: &Rule, random: &mut Random) -> Option<Rule> {
+    let body = vec![rule.head[random.below(rule.head.len())].clone()];
+    let universals = variables(&body);
+    if universals.is_empty() || universals.len() > 3 {
+        return None;
+    }
+    let fresh = (0..12).find(|v| !universals.contains(v))?;
+    let mut head = rule.head.clone();
+    if random.percent(60) {
+        head.truncate(1);
+    }
+    for term in head.iter_mut().flat_map(|a| &mut a.terms) {
+        let stays = matches!(term, Term::Variable(v) if universals.contains(v)) && random.percent(50);
+        let constant = matches!(term, Term::Constant(_)) && random.percent(70);
+        if !stays && !constant {
+            *term = match random.below(10) {
+                0 => Term::Variable(fresh),
+                1 => *random_term(rule, random),
+                _ => Term::Variable(random.pick(&universals)),
+            };
+        }
+    }
+    Some(Rule { number: rule.number, body, head })
+}
+
+/// Some term of the rule's head.
+fn random_term<'a>(rule: &'a Rule, random: &mut Random) -> &'a Term {
+    let atom = &rule.head[random.below(rule.head.len())];
+    &atom.terms[random.below(atom.terms.len())]
+}
+
 fn right(random: &mut Random) -> (&'static str, Vec<Rule>) {
     match random.below(1000) {
         0..=14 => {
@@ -190,6 +222,17 @@ fn right(random: &mut Random) -> (&'static str, Vec<Rule>) {
             let style = wide_style(random);
             let count = random.from(1, 3);
             ("wide atoms", rules(&style, random, count))
+        }
+        200..=399 => {
+            let style = if random.percent(40) { wide_style(random) } else { small_style(random) };
+            let style = Style { existentials: (1, style.existentials.1.max(2)), ..style };
+            let count = random.from(2, 3);
+            let mut list = rules(&style, random, count);
+            let (from, to) = (random.below(count), random.below(count));
+            if let Some(turned) = turn(&list[from].clone(), random) {
+                list[to] = Rule { number: list[to].number, ..turned };
+            }
+            ("rules on each other's nulls", list)
         }
         _ => {
             let style = small_style(random);
