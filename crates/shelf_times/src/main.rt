@@ -5,11 +5,11 @@
 
 mod given;
 mod works;
+mod yeses;
 
 use given::{calls_for, chain, shelf_of};
 use inputs::{read_rounds, read_volume};
 use reliances::Kind;
-use shelf::Answer;
 use std::alloc::Global;
 use std::io;
 use std::marker::PhantomData;
@@ -18,6 +18,7 @@ use std::time::Clock;
 use timing::time;
 use volumes::{Entries, Facts, RuleVolume, Rules};
 use works::{Calls, Check, Grading};
+use yeses::count_yeses;
 
 /// Prints the end of a line: the time, where rounds are given.
 fn print_end<R: Print>(rt: &R, time: u128, rounds: Option<NonZeroU32>) -> io::Result<()> {
@@ -46,17 +47,6 @@ fn print_check<E: Entries, R: Print + Clock>(
     print_end(rt, time, rounds)
 }
 
-/// How many of the answers are a yes.
-fn yeses(answers: &[Answer]) -> usize {
-    let mut count: usize = 0;
-    for answer in answers {
-        if let Answer::Yes(_) = answer {
-            count = count.saturating_add(1);
-        }
-    }
-    count
-}
-
 /// Prints how many pairs of rules have the relation.
 fn print_asked<R: Print + Clock>(
     rt: &R,
@@ -72,7 +62,7 @@ fn print_asked<R: Print + Clock>(
         heap,
     };
     let (answers, time) = time(&work, rt, rounds.unwrap_or(NonZeroU32::MIN))?;
-    let count = yeses(answers?.as_slice());
+    let count = count_yeses(answers?.as_slice());
     print!(rt; "{name} {count}")?;
     print_end(rt, time, rounds)
 }
