@@ -76,8 +76,27 @@ pub fn style(name: &str) -> Option<Style> {
             open: 80,
         }),
         "sparse" => Some(Style { predicates: 300, ..large }),
+        // as many bytes as a rule can have
+        "full" => Some(Style { bodies: (6, 6), heads: (4, 4), arity: (4, 4), ..large }),
         _ => None,
     }
+}
+
+/// `large`, or `large:6:4:64`: a style, and behind it how many body atoms and head atoms a rule has and how many rules there
+/// are, each 0 for what the style says, or for 64 rules
+pub fn sized(name: &str) -> Option<(Style, usize)> {
+    let mut words = name.split(':');
+    let mut style = style(words.next()?)?;
+    let counts: Result<Vec<usize>, _> = words.map(str::parse).collect();
+    let counts = counts.ok()?;
+    let count = |place: usize| counts.get(place).copied().filter(|&count| count > 0);
+    if let Some(bodies) = count(0) {
+        style.bodies = (bodies, bodies);
+    }
+    if let Some(heads) = count(1) {
+        style.heads = (heads, heads);
+    }
+    Some((style, count(2).unwrap_or(64)))
 }
 
 pub fn rules(style: &Style, seed: u64, count: usize) -> Vec<Draft> {
