@@ -4,5 +4,6 @@ pub mod Mapping
 pub mod Membership
 pub mod Alike
 pub mod Bounded
+pub mod Setting
 pub mod Rearranged
 pub mod Shown

@@ -1,11 +1,12 @@
 -- What stands in a list, and tests of lists that decide it.
 -- Assumes nothing.
-use Rattle.std.proofs.Common.{◌≡◌, ℕ, Bool, true, false, ◌&&◌, ◌||◌, eqb, ◌⊎◌, List, [], ◌∷◌, ◌++◌, Decides, sym, refl, ap, subst, inl, inr, ⊎_elim, arith}
+use Rattle.std.proofs.Common.{◌≡◌, ℕ, Bool, true, false, ◌&&◌, ◌||◌, eqb, ◌⊎◌, List, [], ◌∷◌, ◌++◌, map, Decides, sym, refl, ap, subst, inl, inr, ⊎_elim, arith}
 use Rattle.std.proofs.lemmas.Bool.Decides.{Decides-eqb, Decides-and, Decides-or, Decides-not, Decides-like}
 use Rattle.std.proofs.lemmas.Bool.{false≢true}
 use Rattle.rules.specs.declared.Term.{Term}
 use Rattle.rules.specs.declared.Term.TheVariants.{Constant, Variable, Null}
-use Rattle.rules.specs.Logic.{In, Each, Formula, Implication, terms_of, Existential}
+use Rattle.rules.specs.declared.Atom.{Atom}
+use Rattle.rules.specs.Logic.{In, Each, Formula, Implication, formula_of, terms_of, Existential}
 use Rattle.rules.specs.Bounds.{every, some, is_variable?, has?, existential?}
 
 pub in_left : {A : Type 0} (x : A) (xs ys : List A) → In x xs → In x (xs ++ ys)
@@ -59,6 +60,9 @@ stands_decided v (a ∷ fs) =
     (⊎_elim (in_left (Variable v) a.terms (terms_of fs)) (in_right (Variable v) a.terms (terms_of fs)))
     (in_either (Variable v) a.terms (terms_of fs))
     (Decides-or (has? v a) (some (has? v) fs) (has_decided v a) (stands_decided v fs))
+
+pub some_has_decided : (v : ℕ) (atoms : List Atom) → Decides (some (has? v) (map formula_of atoms)) (In (Variable v) (terms_of (map formula_of atoms)))
+some_has_decided v atoms = stands_decided v (map formula_of atoms)
 
 pub existential_decided : (r : Implication) (v : ℕ) → Decides (existential? r v) (Existential r v)
 existential_decided r v =

@@ -1,7 +1,8 @@
 ghost use Rattle.std.specs.Prelude.{◌≡◌, [], take, Decides};
+ghost use Rattle.std.specs.Cmp.Lexicographic.{pointwise};
 ghost use Rattle.rules.specs.Logic.{formula_of};
-ghost use Rattle.rules.specs.Bounds.{has?, flags};
-ghost use Rattle.rules.specs.Same.{same_atom?, same_atom_laws};
+ghost use Rattle.rules.specs.Bounds.{is_variable?, has?, flags};
+ghost use Rattle.rules.specs.Same.{same_term?, same_atom?, same_atom_laws};
 
 use crate::{Atom, Term};
 
@@ -24,8 +25,30 @@ impl Atom {
     pub(crate) fn has(&self, v: u16) -> bool
         ensures { result ≡ has? v (formula_of self.now) }
     {
-        self.args().contains(&Term::Variable(v))
+        // No `contains` and no `==` of slices here: these go by groups of eight terms, and an atom has four at most.
+        self.args().iter().any(|t| is_variable(t, v))
     }
+}
+
+fn is_variable(t: &Term, v: u16) -> bool
+    ensures { result ≡ is_variable? v t.now }
+{
+    *t == Term::Variable(v)
+}
+
+/// Whether the lists have the same terms.
+fn are_same(xs: &[Term], ys: &[Term]) -> bool
+    ensures { result ≡ pointwise same_term? xs.now ys.now }
+{
+    if xs.len() != ys.len() {
+        return false;
+    }
+    for (x, y) in xs.iter().zip(ys) {
+        if x != y {
+            return false;
+        }
+    }
+    true
 }
 
 /// The flag of a number; past the list none is set.
@@ -62,6 +85,6 @@ impl PartialEq for Atom {
         ensures value { result ≡ same_atom? self.now other.now }
         ensures decides { Decides result (formula_of self.now ≡ formula_of other.now) }
     {
-        self.predicate == other.predicate && self.args() == other.args()
+        self.predicate == other.predicate && are_same(self.args(), other.args())
     }
 }

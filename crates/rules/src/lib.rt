@@ -2,6 +2,7 @@
 #![tactic(auto)]
 
 mod args;
+mod flags;
 mod made;
 mod marks;
 mod order;

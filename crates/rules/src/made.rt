@@ -3,6 +3,7 @@ ghost use Rattle.rules.specs.Logic.{Universal, Existential};
 ghost use Rattle.rules.specs.Bounds.{body_of, head_of, MakesRule, Rearranged, FlagsAre, near?, universal?, existential?};
 ghost use Rattle.rules.specs.Rules.{MadeOf, meaning, order_of};
 
+use crate::flags::count_flags;
 use crate::marks::{have_common, marks_of};
 use crate::order::arranged;
 use crate::{Atom, Rule, RuleParts, first, is_flagged};
@@ -12,13 +13,17 @@ impl Rule {
     pub fn new(parts: RuleParts) -> Option<Rule>
         ensures { MadeOf parts result }
     {
-        if !parts.make_rule() {
+        if !parts.have_rule_atoms() {
             return None;
         }
-        let existential = parts.flag_existential();
+        let universal = parts.flag_universal();
+        let existential = parts.flag_existential(&universal);
+        if count_flags(&existential) > 4 {
+            return None;
+        }
         Some(Rule {
             parts,
-            universal: parts.flag_universal(),
+            universal,
             existential,
             order: arranged(&parts, &existential),
             body_marks: marks_of(parts.body()),

@@ -1,9 +1,10 @@
 ghost use Rattle.std.specs.Prelude.{◌≡◌, true, map};
 ghost use Rattle.rules.specs.Logic.{formula_of, implication_of};
-ghost use Rattle.rules.specs.Bounds.{every, some, has?, plain?, rule_atom?, universal?, existential?, FlagsAre, existentials, makes_rule?, body_of, head_of};
+ghost use Rattle.rules.specs.Bounds.{every, some, has?, plain?, rule_atom?, universal?, existential?, FlagsAre, body_of, head_of};
+ghost use Rattle.rules.specs.Flags.{rule_atoms?};
 
+use crate::flags::{flags_of, only_in};
 use crate::{Atom, Term, first};
-use std::array;
 
 /// The parts of a rule before anything is checked: the first `bodies` and the first `heads` atoms count.
 #[derive(Clone, Copy)]
@@ -39,45 +40,9 @@ impl RuleParts {
         first(&self.head, self.heads)
     }
 
-    /// Whether the variable stands in the body.
-    pub(crate) fn is_in_body(&self, v: u16) -> bool
-        ensures { result ≡ universal? (implication_of self.now) v }
-    {
-        have(self.body(), v)
-    }
-
-    /// Whether the variable stands in the head, and not in the body.
-    pub(crate) fn is_only_in_head(&self, v: u16) -> bool
-        ensures { result ≡ existential? (implication_of self.now) v }
-    {
-        have(self.head(), v) && !self.is_in_body(v)
-    }
-
-    /// The flags of the universal variables.
-    pub(crate) fn flag_universal(&self) -> [bool; 12]
-        requires { makes_rule? self.now ≡ true }
-        ensures { FlagsAre result (universal? (implication_of self.now)) }
-    {
-        array::from_fn(|v| self.is_in_body(v as u16))
-    }
-
-    /// The flags of the existential variables.
-    pub(crate) fn flag_existential(&self) -> [bool; 12]
-        requires { makes_rule? self.now ≡ true }
-        ensures { FlagsAre result (existential? (implication_of self.now)) }
-    {
-        array::from_fn(|v| self.is_only_in_head(v as u16))
-    }
-
-    fn count_existentials(&self) -> usize
-        ensures { result ≡ existentials (implication_of self.now) }
-    {
-        (0..12).filter(|v| self.is_only_in_head(*v)).count()
-    }
-
-    /// Whether they make a rule.
-    pub(crate) fn make_rule(&self) -> bool
-        ensures { result ≡ makes_rule? self.now }
+    /// Whether there are as many atoms as a rule may have, and each is one that it may have.
+    pub(crate) fn have_rule_atoms(&self) -> bool
+        ensures { result ≡ rule_atoms? self.now }
     {
         1 <= self.bodies
             && self.bodies <= 6
@@ -85,7 +50,23 @@ impl RuleParts {
             && self.heads <= 4
             && are_rule_atoms(self.body())
             && are_rule_atoms(self.head())
-            && self.count_existentials() <= 4
+    }
+
+    /// The flags of the universal variables.
+    pub(crate) fn flag_universal(&self) -> [bool; 12]
+        requires { rule_atoms? self.now ≡ true }
+        ensures { FlagsAre result (universal? (implication_of self.now)) }
+    {
+        flags_of(self.body())
+    }
+
+    /// The flags of the existential variables, by those of the universal ones.
+    pub(crate) fn flag_existential(&self, universal: &[bool; 12]) -> [bool; 12]
+        requires atoms { rule_atoms? self.now ≡ true }
+        requires universal { FlagsAre universal.now (universal? (implication_of self.now)) }
+        ensures { FlagsAre result (existential? (implication_of self.now)) }
+    {
+        only_in(&flags_of(self.head()), universal)
     }
 }
 
