@@ -27,7 +27,8 @@ pub(crate) fn is_in(t: Term, list: &[Atom]) -> bool
 pub(crate) fn has(a: &Atom, t: Term) -> bool
     ensures { result ≡ stands t (formula_of a.now).terms }
 {
-    a.args().contains(&t)
+    // No `contains`, which goes by groups of eight: an atom has four terms at most.
+    a.args().iter().any(|s| t == *s)
 }
 
 /// Whether each atom is a fact: one to four terms, which are constants and nulls.
@@ -66,5 +67,7 @@ pub(crate) fn are_held(atoms: &[Atom], h: &[Term], list: &[Atom]) -> bool
 fn is_held(a: &Atom, h: &[Term], list: &[Atom]) -> bool
     ensures { result ≡ holds (under (look h.now) (formula_of a.now)) (formulas list.now) }
 {
-    list.contains(&atom_under(a, h))
+    let filled = atom_under(a, h);
+    // No `contains`, which looks at eight facts before it ends.
+    list.iter().any(|f| *f == filled)
 }
