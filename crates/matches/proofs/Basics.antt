@@ -1,6 +1,6 @@
 -- What stands in a list that is mapped or put together, and tests of lists that decide.
 -- Assumes nothing.
-use Rattle.std.proofs.Common.{◌≡◌, ℕ, suc, ◌<◌, Bool, true, false, ◌||◌, ◌⊎◌, List, [], ◌∷◌, map, length, get_or, Decides, sym, refl, ap, subst, inl, inr, ⊎_elim, arith}
+use Rattle.std.proofs.Common.{◌≡◌, ℕ, suc, ◌<◌, Bool, true, false, ◌&&◌, ◌||◌, ◌⊎◌, List, [], ◌∷◌, map, length, get_or, Decides, sym, refl, ap, subst, inl, inr, ⊎_elim, arith}
 use Rattle.std.proofs.lemmas.Bool.Decides.{Decides-or, Decides-like}
 use Rattle.std.proofs.lemmas.Bool.{false≢true}
 use Rattle.rules.specs.declared.Term.{Term}
@@ -12,6 +12,11 @@ use Rattle.rules.specs.Same.{same_formula?}
 use Rattle.rules.proofs.Alike.{same_term_decided, same_formula_decided}
 use Rattle.rules.proofs.Membership.{in_left, in_right, in_either, decides_false, decides_in}
 use Rattle.matches.specs.Matching.{same, stands, stands_in, holds}
+
+-- `elim` computes one case only, and `&&` both sides
+pub and_lazy : (b c : Bool) → ◌≡◌ {A = Bool} (elim b [ true ↦ c | false ↦ false ]) (b && c)
+and_lazy true c = refl
+and_lazy false c = refl
 
 pub in_map : {A B : Type 0} (f : A → B) (x : A) (xs : List A) → In x xs → In (f x) (map f xs)
 in_map f x [] i = i

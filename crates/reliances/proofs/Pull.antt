@@ -1,10 +1,11 @@
 -- What holds of actual facts is pulled back to symbolic ones along the map from symbolic terms to actual values.
 -- Assumes nothing.
-use Rattle.std.proofs.Common.{◌≡◌, ℕ, List, [], ◌∷◌, ◌++◌, map, sym, refl, ap, ◌∙◌, subst, inl, inr, ⊎_elim}
+use Rattle.std.proofs.Common.{◌≡◌, ℕ, ◌≤◌, List, [], ◌∷◌, ◌++◌, map, length, sym, refl, ap, ◌∙◌, subst, inl, inr, ⊎_elim}
+use Rattle.std.proofs.lemmas.List.{length-map}
 use Rattle.rules.specs.declared.Term.{Term}
 use Rattle.rules.specs.declared.Term.TheVariants.{Constant, Variable, Null}
 use Rattle.rules.specs.Logic.{In, Each, Formula, Implication, Universal}
-use Rattle.rules.specs.Matches.{Assignment, value, under, Stands, Match, Satisfied}
+use Rattle.rules.specs.Matches.{Assignment, value, under, Stands, Ground, Facts, Match, Satisfied}
 use Rattle.rules.proofs.Membership.{in_either}
 use Rattle.matches.proofs.Basics.{in_map, from_map, in_terms, from_terms, cons_path, formula_path, under_same}
 use Rattle.matches.proofs.Bounded.{Within}
@@ -36,6 +37,22 @@ pub stands_lifts : (θ : ℕ → Term) (C F : List Formula) → Into θ C F → 
 stands_lifts θ C F m t i =
     let r = from_terms t C i in
     in_terms (hat θ t) (lift θ r.0) F (m r.0 r.1) (in_map (hat θ) t r.0.terms r.2)
+
+ground_back : (θ : ℕ → Term) (t : Term) → Ground (hat θ t) → Ground t
+ground_back θ (Constant c) g = tt
+ground_back θ (Variable v) g = g
+ground_back θ (Null n) g = tt
+
+-- symbolic atoms whose actual ones are facts are facts
+pub facts_back : (θ : ℕ → Term) (C F : List Formula) → Into θ C F → Facts F → Facts C
+facts_back θ C F m f x i =
+    let z = f (lift θ x) (m x i) in
+    let same_length : length (map (hat θ) x.terms) ≡ length x.terms = length-map x.terms (hat θ) in
+    record {
+      some = subst (λ n. 1 ≤ n) same_length z.some;
+      few = subst (λ n. n ≤ 4) same_length z.few;
+      ground = λ t j. ground_back θ t (z.ground (hat θ t) (in_map (hat θ) t x.terms j));
+    }
 
 pub match_lifts : (θ : ℕ → Term) (C F : List Formula) → Into θ C F → (R : Implication) (h g : Assignment)
     → Each (λ a. lift θ (under h a) ≡ under g a) R.body → Match R h C → Match R g F
