@@ -1,25 +1,48 @@
 //! Whether the check, what is taken up and the reader of a rule's atoms agree.
 use rules::{Atom, Rule};
-use volumes::{Entries, Item, Placed, RuleAtoms, RuleVolume, Volume};
+use volumes::{Entries, Facts, Item, NumberedRule, Placed, RuleAtoms, Rules, Volume};
 
-/// Whether there are as many rules or facts as the check says, each of them is there, and none past them.
-pub fn entries_agree<E: Entries>(bytes: &[u8]) -> bool {
-    let volume = Volume::<E>::take_up(bytes);
-    let count = E::check(bytes).unwrap_or(0);
-    let all = (0..count).all(|i| E::entry(&volume, i).is_some());
-    all && volume.count() == count && E::entry(&volume, count).is_none()
+/// What must agree beside the entries themselves.
+pub trait Agrees: Entries {
+    /// Whether what the volume has of the index is that of the entry.
+    fn agrees(volume: &Volume<'_, Self>, index: usize, entry: &Self::Entry) -> bool;
+
+    /// Whether the volume has nothing of the index.
+    fn is_past(volume: &Volume<'_, Self>, index: usize) -> bool;
 }
 
-/// Whether each rule has its atoms, and there are none past the rules.
-pub fn atoms_agree(bytes: &[u8]) -> bool {
-    let volume = RuleVolume::take_up(bytes);
-    let count = volume.count();
+/// The atoms of each rule.
+impl Agrees for Rules {
+    fn agrees(volume: &Volume<'_, Rules>, index: usize, entry: &NumberedRule) -> bool {
+        hands_out(volume.atoms(index), &entry.rule)
+    }
+
+    fn is_past(volume: &Volume<'_, Rules>, index: usize) -> bool {
+        is_at_end(&mut volume.atoms(index))
+    }
+}
+
+/// Nothing: a fact is all that the volume has of its index.
+impl Agrees for Facts {
+    fn agrees(_: &Volume<'_, Facts>, _: usize, _: &Atom) -> bool {
+        true
+    }
+
+    fn is_past(_: &Volume<'_, Facts>, _: usize) -> bool {
+        true
+    }
+}
+
+/// Whether there are as many rules or facts as the check says, each of them is there with what the volume has of it, and
+/// none past them. The volume is taken up once, and each entry read once.
+pub fn entries_agree<E: Agrees>(bytes: &[u8]) -> bool {
+    let volume = Volume::<E>::take_up(bytes);
+    let count = E::check(bytes).unwrap_or(0);
     let all = (0..count).all(|i| {
-        volume
-            .rule(i)
-            .is_some_and(|entry| hands_out(volume.atoms(i), &entry.rule))
+        E::entry(&volume, i).is_some_and(|entry| E::agrees(&volume, i, &entry))
     });
-    all && is_at_end(&mut volume.atoms(count))
+    let none_past = E::entry(&volume, count).is_none() && E::is_past(&volume, count);
+    all && volume.count() == count && none_past
 }
 
 /// Whether the reader hands out the rule's atoms in their order and then ends.

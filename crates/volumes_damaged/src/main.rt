@@ -4,7 +4,7 @@
 mod agreement;
 mod tally;
 
-use agreement::{atoms_agree, entries_agree};
+use agreement::entries_agree;
 use std::{fs, io};
 use tally::Tally;
 use volumes::{Facts, Rules, check_facts, check_rules};
@@ -43,8 +43,8 @@ struct Outcome {
 
 impl Outcome {
     fn add(&mut self, bytes: &[u8]) {
-        let agreed = entries_agree::<Rules>(bytes) && atoms_agree(bytes);
-        self.rules.add(check_rules(bytes), agreed);
+        self.rules
+            .add(check_rules(bytes), entries_agree::<Rules>(bytes));
         self.facts
             .add(check_facts(bytes), entries_agree::<Facts>(bytes));
     }
