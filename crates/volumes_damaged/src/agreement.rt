@@ -7,7 +7,7 @@ pub trait Agrees: Entries {
     /// Whether what the volume has of the index is that of the entry.
     fn agrees(volume: &Volume<'_, Self>, index: usize, entry: &Self::Entry) -> bool;
 
-    /// Whether the volume has nothing of the index.
+    /// Whether, past the entries, the volume has nothing else of the index either.
     fn is_past(volume: &Volume<'_, Self>, index: usize) -> bool;
 }
 
@@ -34,7 +34,7 @@ impl Agrees for Facts {
 }
 
 /// Whether there are as many rules or facts as the check says, each of them is there with what the volume has of it, and
-/// none past them. The volume is taken up once, and each entry read once.
+/// none past them. The volume is taken up once, and each entry is had once.
 pub fn entries_agree<E: Agrees>(bytes: &[u8]) -> bool {
     let volume = Volume::<E>::take_up(bytes);
     let count = E::check(bytes).unwrap_or(0);
