@@ -1,3 +1,4 @@
+pub mod Binding
 pub mod Basics
 pub mod Bounded
 pub mod Below

@@ -1,9 +1,8 @@
 ghost use Rattle.std.specs.Prelude.{◌≡◌, Decides};
-ghost use Rattle.rules.specs.Bounds.{universal?};
 ghost use Rattle.rules.specs.Matches.{Match, Satisfied};
 ghost use Rattle.rules.specs.Rules.{meaning};
 ghost use Rattle.matches.specs.Lists.{look, formulas};
-ghost use Rattle.matches.specs.Matching.{same, bound_slot};
+ghost use Rattle.matches.specs.Matching.{same};
 
 use crate::facts::are_held;
 use crate::filling::look_up;
@@ -34,17 +33,6 @@ impl Trigger<'_> {
         Slots::bound(self)
             .map_into(self.facts, None, self.rule.search_order())
             .is_some()
-    }
-
-    /// What a universal variable is given, and nothing for another one.
-    pub(crate) fn bound_value(self, v: u16) -> Option<Term>
-        ensures { result ≡ bound_slot (universal? (meaning self.entry.rule.now) v) (look self.entry.values.now v) }
-    {
-        if self.rule.is_universal(v) {
-            Some(self.value(v))
-        } else {
-            None
-        }
     }
 
     pub(crate) fn value(self, v: u16) -> Term
