@@ -1,6 +1,6 @@
 -- What the tests of a sheet say together, and that entries which are read hold constants and nulls where the tests pass.
 -- Assumes nothing.
-use Rattle.std.proofs.Common.{◌≡◌, ℕ, Bool, List, ◌++◌, map, take, Decides, sym, ap, ◌∙◌, subst, inl, inr, ⊎_elim}
+use Rattle.std.proofs.Common.{◌≡◌, ℕ, Bool, List, [], ◌++◌, map, take, Decides, sym, ap, ◌∙◌, subst, inl, inr, ⊎_elim}
 use Rattle.std.proofs.lemmas.Bool.Decides.{Decides-like}
 use Rattle.std.proofs.lemmas.List.{map-append}
 use Rattle.rules.specs.declared.Term.{Term}
@@ -72,6 +72,15 @@ pub resulted : (R : Rule) (h : Assignment) (xs head ys : List Atom) → head ≡
 resulted R h xs head ys e p =
     ap formulas p ∙ map-append formula_of xs (map (under_atom h) head)
     ∙ (λ i. formulas xs ++ all_under h head i) ∙ (λ i. formulas xs ++ map (under h) (formulas (e i)))
+
+-- a list that was begun with facts
+pub begun : (none facts one : List Atom) → none ≡ [] → one ≡ none ++ facts → one ≡ facts
+begun none facts one e p = p ∙ ap (λ z. z ++ facts) e
+
+-- facts to which a head was added, as h says, and then others
+pub added_to : (R : Rule) (h : Assignment) (facts one two more ys : List Atom) → one ≡ facts → formulas two ≡ result (meaning R) h (formulas one) → ys ≡ two ++ more
+    → formulas ys ≡ result (meaning R) h (formulas facts) ++ formulas more
+added_to R h facts one two more ys e r p = joined two more ys _ (r ∙ ap (λ z. result (meaning R) h (formulas z)) e) p
 
 pub reliance_decided : (A B : Implication) (F G : List Formula) (f s : Assignment) → Facts F → G ≡ result A f F → Applies A f F → (Match B s F → ⊥)
     → (r : Bool) → Decides r (Unsatisfied B s G) → Decides r (ShowsReliance A B F f s)

@@ -1,6 +1,6 @@
 // Whether a sheet meets the definition of the relation that it is to show: a test for each condition, and nothing is
 // taken from how the sheet was made.
-ghost use Rattle.std.specs.Prelude.{◌≡◌, ◌+◌, ◌≤◌, true, length, Decides};
+ghost use Rattle.std.specs.Prelude.{◌≡◌, ◌+◌, ◌≤◌, true, Decides};
 ghost use Rattle.arrayvec.specs.ArrayVec.{array_vec_len};
 ghost use Rattle.rules.specs.Matches.{Unsatisfied, Applies, result as result_of};
 ghost use Rattle.rules.specs.Rules.{meaning};
@@ -48,12 +48,16 @@ fn shows_positive(a: &Rule, b: &Rule, sheet: &Sheet) -> bool
         values: &sheet.second_rule,
         facts,
     };
-    is_applied(first)
-        && !second.is_match()
-        && is_unsatisfied(Trigger {
-            facts: &result::<15>(first),
-            ..second
-        })
+    if !is_applied(first) || second.is_match() {
+        return false;
+    }
+    let mut all = ArrayVec::<Atom, 15>::new();
+    push_all(facts, &mut all);
+    apply(a, &sheet.first_rule, &mut all);
+    is_unsatisfied(Trigger {
+        facts: all.as_slice(),
+        ..second
+    })
 }
 
 // The second rule is applied, and what is there besides is added. Then the first rule is applied, which gives an
@@ -77,24 +81,29 @@ fn shows_restraint(a: &Rule, b: &Rule, sheet: &Sheet) -> bool
     if !is_applied(second) {
         return false;
     }
-    let mut later: ArrayVec<Atom, 24> = result(second);
-    push_all(besides, &mut later);
+    // One list, to which each step adds what it brings.
+    let mut all = ArrayVec::<Atom, 28>::new();
+    push_all(facts, &mut all);
+    apply(b, &sheet.second_rule, &mut all);
+    push_all(besides, &mut all);
     let first = Trigger {
         rule: a,
         values: &sheet.first_rule,
-        facts: later.as_slice(),
+        facts: all.as_slice(),
     };
-    let second = Trigger {
+    let later = Trigger {
         facts: first.facts,
         ..second
     };
-    is_applied(first)
-        && !second.has_alternative()
-        && Trigger {
-            facts: &result::<28>(first),
-            ..second
-        }
-        .is_alternative(&sheet.alternative)
+    if !is_applied(first) || later.has_alternative() {
+        return false;
+    }
+    apply(a, &sheet.first_rule, &mut all);
+    Trigger {
+        facts: all.as_slice(),
+        ..second
+    }
+    .is_alternative(&sheet.alternative)
 }
 
 fn is_unsatisfied(trigger: Trigger) -> bool
@@ -109,14 +118,11 @@ fn is_applied(trigger: Trigger) -> bool
     is_unsatisfied(trigger) && trigger.is_fresh()
 }
 
-/// What an application results in.
-fn result<const N: usize>(trigger: Trigger) -> ArrayVec<Atom, N>
-    requires { length trigger.facts.now + 4 ≤ N }
-    ensures few { array_vec_len result ≤ length trigger.entry.facts.now + 4 }
-    ensures is { let t = trigger.entry in formulas result.items ≡ result_of (meaning t.rule.now) (look t.values.now) (formulas t.facts.now) }
+/// Adds to the facts what the rule's head is under the values, as an application does.
+fn apply<const N: usize>(rule: &Rule, values: &[Term], facts: &mut ArrayVec<Atom, N>)
+    requires { array_vec_len facts.old + 4 ≤ N }
+    ensures few { array_vec_len facts.new ≤ array_vec_len facts.old + 4 }
+    ensures is { formulas facts.new.items ≡ result_of (meaning rule.now) (look values.now) (formulas facts.old.items) }
 {
-    let mut all = ArrayVec::new();
-    push_all(trigger.facts, &mut all);
-    push_each(trigger.rule.head(), &Under(trigger.values), &mut all);
-    all
+    push_each(rule.head(), &Under(values), facts);
 }
