@@ -43,7 +43,8 @@ fn are_same(xs: &[Term], ys: &[Term]) -> bool
     if xs.len() != ys.len() {
         return false;
     }
-    // By index: the compiler then sees that the fourth term is the last, and tests no end after it.
+    // By index, and no `zip`: together with how `first` cuts, the compiler then sees that a fourth term is the last, and
+    // tests for no end after it.
     for i in 0..xs.len() {
         if xs[i] != ys[i] {
             return false;
@@ -63,6 +64,7 @@ pub fn is_flagged(list: &[bool], n: u16) -> bool
 pub fn first<T>(xs: &[T], n: u8) -> &[T]
     ensures { result.now ≡ take n xs.now }
 {
+    // The lesser length, and no `get`: for the loop of `are_same`.
     &xs[..xs.len().min(n as usize)]
 }
 
